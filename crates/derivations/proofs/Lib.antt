@@ -1,0 +1,6 @@
+pub mod Elements
+pub mod Growing
+pub mod Splitting
+pub mod Gathering
+pub mod Leading
+pub mod Closing

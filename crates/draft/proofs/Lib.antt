@@ -1,0 +1,5 @@
+pub mod Accepting
+pub mod Causes
+pub mod Growing
+pub mod Rules
+pub mod Tables

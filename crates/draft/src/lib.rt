@@ -1,0 +1,3 @@
+//! Drafts: productions and rules as they are accepted or refused.
+
+pub mod draft;
