@@ -1,1 +1,9 @@
-
+pub mod Lines
+pub mod Once
+pub mod Unique
+pub mod Prefixes
+pub mod Taken
+pub mod Words
+pub mod Productions
+pub mod Rules
+pub mod Back

@@ -17,7 +17,7 @@ use Rattle.draft.specs.Calls.{Adds-production, Adds-rule}
 use Rattle.syntax.specs.Syntax.{Spelling, Line, word-line, production-line, rule-line, Has-form, mark-line, start-line, render}
 use Rattle.syntax.specs.Free.{Free-of}
 use Rattle.file_model.specs.declared.fault.Fault.{Fault}
-use Rattle.file_model.specs.Spelled.{Spelled, Declares, Right-side, Undeclared as Some-undeclared, Unspelled, written}
+use Rattle.file_model.specs.Spelled.{Spelled, Declares, Right-side, Undeclared as Some-undeclared, Unspelled, Sound-spelled, written}
 
 abbrev pub fault : Refusal → ℕ → Fault
 fault refusal line = record { refusal = refusal; line = line }
@@ -125,3 +125,7 @@ pub record Read-back (text : List ℕ) (s : Spelled) : Type 0 where
 -- every text has at most one reading
 abbrev pub Unique-readings : Type 0
 Unique-readings = (text : List ℕ) (r r′ : Result ℕ Fault) (t t′ : Spelled) → Reads text r t → Reads text r′ t′ → (r ≡ r′) × (t ≡ t′)
+
+-- a sound spelled grammar without unspelled kinds is read back from its text
+abbrev pub Written-is-read-back : Type 0
+Written-is-read-back = (s : Spelled) → Sound-spelled s → (¬ Unspelled s) → Read-back (text-of s) s

@@ -9,6 +9,7 @@ use Rattle.std.specs.Reads.{Digits, value}
 use Rattle.std.specs.Text.{In, digitValue}
 use Rattle.std.specs.Written.{decimal}
 use Rattle.std.proofs.shelf.Ways.{tells}
+use Rattle.std.proofs.shelf.Lists.{length-take}
 use Rattle.std.proofs.shelf.Tests.{cases-eq}
 use Rattle.std.proofs.shelf.Digits.{digits-more, value-more}
 use Rattle.std.proofs.shelf.Decimals.{decimal-digit, length-decimal-le, decimal-some, first-decimal, digits-decimal, value-decimal, decimal-value}
@@ -21,8 +22,11 @@ digit-value : (c : ℕ) → In 48 57 c → digitValue c ≡ c - 48
 digit-value c h = grind (arith, tells)
 
 -- five digits write less than a hundred thousand
-pub five-digits : (ds : List ℕ) → Digits 10 ds → length ds ≤ 5 → value 10 ds < 100000
+five-digits : (ds : List ℕ) → Digits 10 ds → length ds ≤ 5 → value 10 ds < 100000
 five-digits ds h l = value-short decimal-digits ds 5 h l
+
+pub front-small : (ds : List ℕ) (i : ℕ) → length ds ≤ 5 → Digits 10 (take i ds) → value 10 (take i ds) < 100000
+front-small ds i h d = five-digits (take i ds) d (omega (arith, length-take i ds))
 
 -- one digit more
 pub digits-step :
@@ -45,13 +49,20 @@ pub record Numeral-shape (n : ℕ) (bs : List ℕ) : Type 0 where
   pub digits : Digits 10 bs
   pub value-is : value 10 bs ≡ n
 
+zero-alone : (n : ℕ) → n < 2 ^ 64 → getD (decimal n) 0 0 ≡ 48 → length (decimal n) ≡ 1
+zero-alone n small z =
+    ⊎-elim
+    (λ (e : n ≡ 0). ap (λ m. length (decimal m)) e ∙ ap length (decimal-digit 0 (omega arith)))
+    (λ (f : n ≡ 0 → ⊥). absurd (omega (arith, first-decimal n (omega arith) small)))
+    (cases-eq n 0)
+
 pub decimal-shape : (n : ℕ) → n ≤ 65535 → Numeral-shape n (decimal n)
 decimal-shape n h =
     let small : n < 2 ^ 64 = omega arith in
     record {
       some = decimal-some n small;
       short = length-decimal-le 5 n (omega arith) (omega arith) small;
-      no-zero = ⊎-elim (λ (e : n ≡ 0) _. ap (λ m. length (decimal m)) e ∙ ap length (decimal-digit 0 (omega arith))) (λ (f : n ≡ 0 → ⊥) z. absurd (omega (arith, first-decimal n (omega arith) small))) (cases-eq n 0);
+      no-zero = zero-alone n small;
       digits = digits-decimal decimal-digits n small;
       value-is = value-decimal decimal-digits n small;
     }
@@ -59,7 +70,7 @@ decimal-shape n h =
 pub shape-of : (n : ℕ) (bs : List ℕ) → n ≤ 65535 → bs ≡ decimal n → Numeral-shape n bs
 shape-of n bs h e = rw e (decimal-shape n h)
 
--- and what looks like it is a number in decimal
+-- what looks so is the number in decimal
 pub shape-decimal : (n : ℕ) (bs : List ℕ) → Numeral-shape n bs → bs ≡ decimal n
 shape-decimal n bs s =
     let low = five-digits bs (s .digits) (s .short) in

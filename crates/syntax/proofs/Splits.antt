@@ -25,9 +25,17 @@ pub split-found :
 split-found bytes from b r i h =
     let low = i .after in
     let at : from + (r - from) ≡ r = omega arith in
-    sym (take-append-drop (r - from) (drop from bytes))
-    ∙ ap (λ t. take (r - from) (drop from bytes) ++ t) (drop-drop (r - from) from bytes ∙ ap (λ n. drop n bytes) at ∙ drop-more bytes r 0 h ∙ ap (λ c. c ∷ drop (r + 1) bytes) (i .found h))
+    let rest : drop (r - from) (drop from bytes) ≡ b ∷ drop (r + 1) bytes =
+    drop-drop (r - from) from bytes
+    ∙ ap (λ n. drop n bytes) at
+    ∙ drop-more bytes r 0 h
+    ∙ ap (λ c. c ∷ drop (r + 1) bytes) (i .found h) in
+    sym (take-append-drop (r - from) (drop from bytes)) ∙ ap (λ t. take (r - from) (drop from bytes) ++ t) rest
 
 -- where it is not, all that is left lies before
-pub split-none : (bytes : List ℕ) (from b r : ℕ) → First-index bytes from b r → length bytes ≤ r → drop from bytes ≡ take (r - from) (drop from bytes)
+pub split-none :
+    (bytes : List ℕ) (from b r : ℕ) →
+    First-index bytes from b r →
+    length bytes ≤ r →
+    drop from bytes ≡ take (r - from) (drop from bytes)
 split-none bytes from b r i h = sym (take-all (r - from) (drop from bytes) (omega (arith, length-drop from bytes)))

@@ -36,19 +36,23 @@ abbrev pub Reads-digits : List ℕ → Option ℕ → Type 0
 Reads-digits bytes (Some n) = Digits 10 bytes × (n ≡ value 10 bytes)
 Reads-digits bytes None = ¬ Digits 10 bytes
 
+-- a number up to 65535, from its decimal digits
 abbrev pub Reads-number : List ℕ → Option ℕ → Type 0
 Reads-number = Reads (λ (n : ℕ). n) (λ n. n ≤ 65535) decimal
 
+-- a spelling, from its text
 abbrev pub Reads-spelling : List ℕ → Option Spelling → Type 0
 Reads-spelling = Reads spelling Valid-spelling spelling-text
 
+-- a symbol of a right side, from its text
 abbrev pub Reads-symbol : List ℕ → Option Symbol → Type 0
 Reads-symbol = Reads symbol Valid-symbol symbol-text
 
+-- a nonterminal, from its letter
 abbrev pub Reads-letter : List ℕ → Option ℕ → Type 0
 Reads-letter = Reads (λ (s : ℕ). s) (λ s. s < 16) letter
 
--- of the sign's byte
+-- a relation, from the byte of its sign
 abbrev pub Reads-relation : ℕ → Option Relation → Type 0
 Reads-relation = Reads (λ (r : Relation). r) (λ _. Unit {0}) sign
 

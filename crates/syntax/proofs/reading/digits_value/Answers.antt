@@ -2,25 +2,23 @@ use mathlib.Core.Path.{_≡_}
 use native.Mathlib.Omega.{arith}
 use lib.ListN.{take}
 use lib.Seq.{take-all}
-use Rattle.std.proofs.shelf.Lists.{length-take-le}
 use Rattle.std.proofs.shelf.Numerals.{digit-at}
-use Rattle.syntax.proofs.Numbers.{five-digits, digits-step}
+use Rattle.syntax.proofs.Numbers.{front-small, digits-step}
 use Rattle.syntax.proofs.reading.digits_value.Needs as need
 
 pub mul-n : need.mul-n
-mul-n c =
-    let i = c .loop-byte .byte-index in
-    let ds = c .args .digits .now in
-    omega (arith, five-digits (take i ds) (c .loop-byte .inv .0) (omega (arith, length-take-le i ds (omega arith))))
+mul-n c = omega (arith, front-small (c .args .digits .now) (c .loop-byte .byte-index) (c .pre) (c .loop-byte .inv .0))
 
 pub add-n : need.add-n
 add-n c =
     let i = c .loop-byte .byte-index in
-    let ds = c .args .digits .now in
-    omega (arith, five-digits (take i ds) (c .loop-byte .inv .0) (omega (arith, length-take-le i ds (omega arith))), c .typed .digits i)
+    omega (arith, front-small (c .args .digits .now) i (c .pre) (c .loop-byte .inv .0), c .typed .digits i)
 
 pub loop-byte-again : need.loop-byte-again
-loop-byte-again c = digits-step (c .args .digits .now) (c .loop-byte .byte-index) (c .loop-byte .n) _ (omega arith) (c .if-not-is-ascii-digit .ensures tt .cases) (c .from .ensures) (c .loop-byte .inv .0) (c .loop-byte .inv .1)
+loop-byte-again c =
+    let inv = c .loop-byte .inv in
+    let digit = c .if-not-is-ascii-digit .ensures tt .cases in
+    digits-step (c .args .digits .now) (c .loop-byte .byte-index) (c .loop-byte .n) _ (omega arith) digit (c .from .ensures) (inv .0) (inv .1)
 
 pub returns : need.returns
 returns c =

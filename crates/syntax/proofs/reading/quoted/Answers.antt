@@ -29,7 +29,6 @@ bracketed l h a k b =
 
 ends-so : (l bs : List ℕ) → l ≡ 34 ∷ (bs ++ 34 ∷ []) → (1 ≤ length (between 1 (length l) l)) × (getD (between 1 (length l) l) (length (between 1 (length l) l) - 1) 0 ≡ 34)
 ends-so l bs e =
-    let one : 0 ≤ length l = omega arith in
     let f = first-rest l 0 (omega (arith, ap length e)) in
     let r : between 1 (length l) l ≡ bs ++ 34 ∷ [] = cc in
     let n = length-append bs (34 ∷ []) in

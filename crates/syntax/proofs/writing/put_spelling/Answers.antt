@@ -18,7 +18,8 @@ pub returns-in-Break-opened : need.returns-in-Break-opened
 returns-in-Break-opened c =
     let p = err-from-errBy (c .from-residual .result) (c .from-residual .ensures .1) in
     let l = c .in-Literal .literal in
-    writes-break (c .args .out .now) _ (c .args .at) (34 ∷ []) (bytes-of l ++ 34 ∷ []) _ (text-is _ l (bytes-of l) (c .in-Literal .is) refl) (p .1) (p .2) (c .in-Break-opened .ensures tt)
+    let text = text-is _ l (bytes-of l) (c .in-Literal .is) refl in
+    writes-break (c .args .out .now) _ (c .args .at) (34 ∷ []) (bytes-of l ++ 34 ∷ []) _ text (p .1) (p .2) (c .in-Break-opened .ensures tt)
 
 pub returns-in-Break-end : need.returns-in-Break-end
 returns-in-Break-end c =

@@ -1,0 +1,11 @@
+use crate::spellings::Spellings;
+use draft::draft::Draft;
+
+mod methods;
+
+// A draft with the spellings of its kinds.
+#[derive(Clone, Copy)]
+pub struct SpelledDraft {
+    pub draft: Draft,
+    pub spellings: Spellings,
+}
