@@ -34,7 +34,7 @@ well-formed d =
       named = d .named;
       unrepeated = d .unrepeated;
       acyclic = d .acyclic;
-      ordered = d .ordered
+      ordered = d .ordered;
     }
 
 no-less : (n : ℕ) → n - 0 ≡ n
@@ -66,8 +66,8 @@ numbers-more : (xs : List Numbered) (n count : ℕ) (x : Numbered) → n < lengt
 numbers-more xs n count x l old up low k e =
     below-more (λ j. let y = getD (set xs n x) j e in (0 < y .upper) × (y .upper ≤ count) × (0 < y .lower) × (y .lower ≤ count)) n
     (λ j h.
-      let ne : j ≢ n = omega arith in
-      subst (λ (y : Numbered). (0 < y .upper) × (y .upper ≤ count) × (0 < y .lower) × (y .lower ≤ count)) (sym (getD-set-other xs n j x e ne)) (old j e h))
+    let ne : j ≢ n = omega arith in
+    subst (λ (y : Numbered). (0 < y .upper) × (y .upper ≤ count) × (0 < y .lower) × (y .lower ≤ count)) (sym (getD-set-other xs n j x e ne)) (old j e h))
     (subst (λ (y : Numbered). (0 < y .upper) × (y .upper ≤ count) × (0 < y .lower) × (y .lower ≤ count)) (sym (getD-set-same xs n x e l)) (up .0, up .1, low .0, low .1))
     k
 

@@ -42,7 +42,7 @@ empty-well-formed =
       named = λ r m. absurd (List·Memᴰ·not-nil m);
       unrepeated = λ k r h. absurd (omega arith);
       acyclic = λ A h. let s = closure-first h in let k = s .1 .known in absurd (omega arith);
-      ordered = λ p h. List·Memᴰ·not-nil (closure-first h .1)
+      ordered = λ p h. List·Memᴰ·not-nil (closure-first h .1);
     }
 
 -- ---- a production more
@@ -70,19 +70,19 @@ module _ (ps : List Production) (p : Production) where
       elim (decLt j (length ps)) [
         | yes hj ↦ elim (decLt k (length ps)) [
           | yes hk ↦
-            let ej = old-at j hj in
-            let ek = old-at k hk in
-            old j k (hj, hk, sym (ap left ej) ∙ a .2 ∙ ap left ek, sym (ap right ej) ∙ a .3 ∙ ap right ek)
+              let ej = old-at j hj in
+              let ek = old-at k hk in
+              old j k (hj, hk, sym (ap left ej) ∙ a .2 ∙ ap left ek, sym (ap right ej) ∙ a .3 ∙ ap right ek)
           | no hk ↦
-            let ej = old-at j hj in
-            let ek = new-at k (omega arith) in
-            absurd (fresh (j, hj, sym (ap left ej) ∙ a .2 ∙ ap left ek, sym (ap right ej) ∙ a .3 ∙ ap right ek))
+              let ej = old-at j hj in
+              let ek = new-at k (omega arith) in
+              absurd (fresh (j, hj, sym (ap left ej) ∙ a .2 ∙ ap left ek, sym (ap right ej) ∙ a .3 ∙ ap right ek))
         ]
         | no hj ↦ elim (decLt k (length ps)) [
           | yes hk ↦
-            let ej = new-at j (omega arith) in
-            let ek = old-at k hk in
-            absurd (fresh (k, hk, sym (ap left ek) ∙ sym (a .2) ∙ ap left ej, sym (ap right ek) ∙ sym (a .3) ∙ ap right ej))
+              let ej = new-at j (omega arith) in
+              let ek = old-at k hk in
+              absurd (fresh (k, hk, sym (ap left ek) ∙ sym (a .2) ∙ ap left ej, sym (ap right ek) ∙ sym (a .3) ∙ ap right ej))
           | no hk ↦ omega arith
         ]
       ]
@@ -107,13 +107,13 @@ production-kept g p w range short room fresh loops price =
       starts = w .starts;
       sides = each-more ps p (λ q. Nonterminal (q .left) × (length (q .right) ≤ 6)) (w .sides) (omega arith, omega arith);
       symbols = λ k i h. each-more ps p (λ q. (i : ℕ) → i < length (q .right) → getD (q .right) i 0 < 48) (λ j l i. w .symbols j i l)
-        (λ j l. let no : ¬ (47 < getD (p .right) j 0) = λ h. range (inr (j, l, h)) in omega arith) k h i;
+          (λ j l. let no : ¬ (47 < getD (p .right) j 0) = λ h. range (inr (j, l, h)) in omega arith) k h i;
       prices = each-more ps p (λ q. q .price ≤ 65535) (w .prices) price;
       apart = apart-more ps p (w .apart) fresh;
       named = λ r m. let n = w .named r m in (omega (arith, length-push ps p, n .0), omega (arith, length-push ps p, n .1));
       unrepeated = w .unrepeated;
       acyclic = λ A h. loops (A, h);
-      ordered = w .ordered
+      ordered = w .ordered;
     }
 
 pub start-kept : (g : Grammar) (s : ℕ) → Well-formed g → s ≤ 15 → Well-formed (with-start g s)
@@ -128,7 +128,7 @@ start-kept g s w h =
       named = w .named;
       unrepeated = w .unrepeated;
       acyclic = w .acyclic;
-      ordered = w .ordered
+      ordered = w .ordered;
     }
 
 -- ---- a rule more
@@ -137,14 +137,14 @@ unrepeated-more : (rs : List Rule) (r : Rule) → Rules-apart rs → (¬ Says rs
 unrepeated-more rs r old fresh k d h says =
     elim (decLt k (length rs)) [
       | yes l ↦
-        let e : getD (rs ++ r ∷ []) k d ≡ getD rs k d = getD-append-left rs (r ∷ []) d k l in
-        let t : take k (rs ++ r ∷ []) ≡ take k rs = take-append-le k rs (r ∷ []) (omega arith) in
-        old k d l (subst (λ (x : Rule). Says (take k rs) (x .upper) (x .relation) (x .lower)) e (subst (λ (ys : List Rule). let x = getD (rs ++ r ∷ []) k d in Says ys (x .upper) (x .relation) (x .lower)) t says))
+          let e : getD (rs ++ r ∷ []) k d ≡ getD rs k d = getD-append-left rs (r ∷ []) d k l in
+          let t : take k (rs ++ r ∷ []) ≡ take k rs = take-append-le k rs (r ∷ []) (omega arith) in
+          old k d l (subst (λ (x : Rule). Says (take k rs) (x .upper) (x .relation) (x .lower)) e (subst (λ (ys : List Rule). let x = getD (rs ++ r ∷ []) k d in Says ys (x .upper) (x .relation) (x .lower)) t says))
       | no l ↦
-        let n : k ≡ length rs = omega (arith, length-push rs r) in
-        let e : getD (rs ++ r ∷ []) k d ≡ r = getD-push rs r d k (sym n) in
-        let t : take k (rs ++ r ∷ []) ≡ rs = take-at rs (r ∷ []) k (sym n) in
-        fresh (subst (λ (x : Rule). Says rs (x .upper) (x .relation) (x .lower)) e (subst (λ (ys : List Rule). let x = getD (rs ++ r ∷ []) k d in Says ys (x .upper) (x .relation) (x .lower)) t says))
+          let n : k ≡ length rs = omega (arith, length-push rs r) in
+          let e : getD (rs ++ r ∷ []) k d ≡ r = getD-push rs r d k (sym n) in
+          let t : take k (rs ++ r ∷ []) ≡ rs = take-at rs (r ∷ []) k (sym n) in
+          fresh (subst (λ (x : Rule). Says rs (x .upper) (x .relation) (x .lower)) e (subst (λ (ys : List Rule). let x = getD (rs ++ r ∷ []) k d in Says ys (x .upper) (x .relation) (x .lower)) t says))
     ]
 
 pub rule-kept :
@@ -167,12 +167,12 @@ rule-kept g upper relation lower w up low room fresh above =
       prices = w .prices;
       apart = w .apart;
       named = λ x m.
-        ⊎-elim (λ old. w .named x old)
-        (λ new.
+          ⊎-elim (λ old. w .named x old)
+          (λ new.
           let e : x ≡ r = List·Memᴰ·eq-of-singleton new in
           (omega (arith, ap upper-of e), omega (arith, ap lower-of e)))
-        (List·Memᴰ·append-cases rs m);
+          (List·Memᴰ·append-cases rs m);
       unrepeated = unrepeated-more rs r (w .unrepeated) (λ says. fresh (upper - 1, lower - 1, omega arith, omega arith, says));
       acyclic = w .acyclic;
-      ordered = λ p h. above (p, h)
+      ordered = λ p h. above (p, h);
     }

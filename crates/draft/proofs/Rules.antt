@@ -65,16 +65,24 @@ module _ (xs : List Numbered) (n count : ℕ) (room : n ≤ length xs) (numbers 
       let x = getD xs i d in
       let b = numbers i d h in
       let m : List·Memᴰ (rule x) (rules (take n xs)) =
-          Memᴰ·cast (looked rule xs n i d no-rule h room) (mem-at (rules (take n xs)) i no-rule (omega (arith, counted rule xs n room))) in
+      Memᴰ·cast (looked rule xs n i d no-rule h room) (mem-at (rules (take n xs)) i no-rule (omega (arith, counted rule xs n room))) in
       ⊎-elim
-      (λ (s : (x .upper ≡ upper) × (x .lower ≡ lower)).
-        (upper - 1, lower - 1, omega (arith, b .0, s .0), omega (arith, b .2, s .1),
-         says-same (rules (take n xs)) (upper - 1) (lower - 1) relation
-         (Memᴰ·cast (sym (ap (λ u. record { upper = u - 1; relation = x .relation; lower = x .lower - 1 }) (s .0) ∙ ap (λ l. record { upper = upper - 1; relation = x .relation; lower = l - 1 }) (s .1) ∙ ap (λ (r : Relation). record { upper = upper - 1; relation = r; lower = lower - 1 }) (same .0))) m)))
-      (λ (s : (¬ (relation ≡ Priority)) × (x .upper ≡ lower) × (x .lower ≡ upper)).
-        (upper - 1, lower - 1, omega (arith, b .2, s .2), omega (arith, b .0, s .1),
-         says-mirrored (rules (take n xs)) (upper - 1) (lower - 1) relation (s .0)
-         (Memᴰ·cast (sym (ap (λ u. record { upper = u - 1; relation = x .relation; lower = x .lower - 1 }) (s .1) ∙ ap (λ l. record { upper = lower - 1; relation = x .relation; lower = l - 1 }) (s .2) ∙ ap (λ (r : Relation). record { upper = lower - 1; relation = r; lower = upper - 1 }) (same .0))) m)))
+      (λ (s : (x .upper ≡ upper) × (x .lower ≡ lower)). (
+        upper - 1,
+        lower - 1,
+        omega (arith, b .0, s .0),
+        omega (arith, b .2, s .1),
+        says-same (rules (take n xs)) (upper - 1) (lower - 1) relation
+            (Memᴰ·cast (sym (ap (λ u. record { upper = u - 1; relation = x .relation; lower = x .lower - 1 }) (s .0) ∙ ap (λ l. record { upper = upper - 1; relation = x .relation; lower = l - 1 }) (s .1) ∙ ap (λ (r : Relation). record { upper = upper - 1; relation = r; lower = lower - 1 }) (same .0))) m),
+      ))
+      (λ (s : (¬ (relation ≡ Priority)) × (x .upper ≡ lower) × (x .lower ≡ upper)). (
+        upper - 1,
+        lower - 1,
+        omega (arith, b .2, s .2),
+        omega (arith, b .0, s .1),
+        says-mirrored (rules (take n xs)) (upper - 1) (lower - 1) relation (s .0)
+            (Memᴰ·cast (sym (ap (λ u. record { upper = u - 1; relation = x .relation; lower = x .lower - 1 }) (s .1) ∙ ap (λ l. record { upper = lower - 1; relation = x .relation; lower = l - 1 }) (s .2) ∙ ap (λ (r : Relation). record { upper = lower - 1; relation = r; lower = upper - 1 }) (same .0))) m),
+      ))
       (same .1)
 
   found : (d : Numbered) (p q : ℕ) → Ruled (rules (take n xs)) p relation q → (i : ℕ) × (i < n) × (getD xs i d .relation ≡ relation) × (getD xs i d .upper ≡ suc p) × (getD xs i d .lower ≡ suc q)

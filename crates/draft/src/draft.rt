@@ -3,7 +3,6 @@ ghost use Prim.Native.Nat.{_≤_};
 ghost use lib.ListN.{length};
 ghost use Rattle.draft.specs.Stored.{grammar, Numbers};
 ghost use Rattle.grammar.specs.Sound.{Small, Sides-in-range, Symbols-in-range, Prices-in-range, Apart, Named, Rules-apart, Acyclic, Ordered};
-
 use grammar::production::Production;
 use grammar::rule::Rule;
 

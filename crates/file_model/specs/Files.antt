@@ -33,7 +33,7 @@ Does s (word-line w) r t = (a : Result ℕ FileRefusal) × Declares (s .spelling
 Does s (production-line left symbols price) r t =
     (Some-undeclared (s .spellings) symbols × (r ≡ Err (File Undeclared)) × (t ≡ s))
     ⊎ ((right : List ℕ) × (a : Result ℕ DraftRefusal) × Right-side (s .spellings) symbols right
-      × Adds-production (s .draft) (record { left = left; right = right; price = price }) a (t .draft) × (t .spellings ≡ s .spellings) × (r ≡ outcome Draft a))
+    × Adds-production (s .draft) (record { left = left; right = right; price = price }) a (t .draft) × (t .spellings ≡ s .spellings) × (r ≡ outcome Draft a))
 Does s (rule-line upper relation lower) r t =
     (a : Result ℕ DraftRefusal) × Adds-rule (s .draft) upper relation lower a (t .draft) × (t .spellings ≡ s .spellings) × (r ≡ outcome Draft a)
 
@@ -121,6 +121,11 @@ Writes-file s before (Err Declared) after = ⊥
 pub record Read-back (text : List ℕ) (s : Spelled) : Type 0 where
   pub back : Reads text (Ok 1) s
   pub only : (r : Result ℕ Fault) (t : Spelled) → Reads text r t → (r ≡ Ok 1) × (t ≡ s)
+
+-- where a file was written, its bytes are read back
+abbrev pub Writes-back : Spelled → Result ℕ FileRefusal → List ℕ → Type 0
+Writes-back s (Ok n) after = Read-back (take n after) s
+Writes-back s (Err e) after = Unit {0}
 
 -- every text has at most one reading
 abbrev pub Unique-readings : Type 0

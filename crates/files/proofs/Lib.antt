@@ -5,3 +5,4 @@ pub mod RightSides
 pub mod RuleLines
 pub mod TextLines
 pub mod Words
+pub mod Written

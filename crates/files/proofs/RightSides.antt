@@ -82,12 +82,12 @@ module _ (text : List ℕ) (at : ℕ) (ss : List Symbol) (p : Progress text at s
           within = omega arith;
           valid = valid-push ss s (p .valid) v;
           joins = λ more price m.
-            p .joins (s ∷ more) price (d ∙ ap (λ (x : List ℕ). symbol-text s ++ 32 ∷ x) m ∙ sym (right-cons s more price))
-            ∙ ap (λ (x : List Symbol). spaced (right-parts x price)) (sym (append-assoc ss (s ∷ []) more));
+              p .joins (s ∷ more) price (d ∙ ap (λ (x : List ℕ). symbol-text s ++ 32 ∷ x) m ∙ sym (right-cons s more price))
+              ∙ ap (λ (x : List Symbol). spaced (right-parts x price)) (sym (append-assoc ss (s ∷ []) more));
           splits = λ all price va ea.
-            let n = next all price va ea other in
-            let b = before-first 32 (symbol-text s) (symbol-text (n .0)) (drop (end + 1) text) (spaced (right-parts (n .1) price)) (part-no-space (symbol-text s) (symbol-part s v)) (part-no-space (symbol-text (n .0)) (symbol-part (n .0) (n .2))) (sym d ∙ n .5) in
-            (n .1, n .3, n .4 ∙ ap (λ (t : Symbol). ss ++ t ∷ n .1) (sym (symbol-injective s (n .0) (b .0))) ∙ sym (append-assoc ss (s ∷ []) (n .1)), b .1)
+              let n = next all price va ea other in
+              let b = before-first 32 (symbol-text s) (symbol-text (n .0)) (drop (end + 1) text) (spaced (right-parts (n .1) price)) (part-no-space (symbol-text s) (symbol-part s v)) (part-no-space (symbol-text (n .0)) (symbol-part (n .0) (n .2))) (sym d ∙ n .5) in
+              (n .1, n .3, n .4 ∙ ap (λ (t : Symbol). ss ++ t ∷ n .1) (sym (symbol-injective s (n .0) (b .0))) ∙ sym (append-assoc ss (s ∷ []) (n .1)), b .1);
         }
 
   -- what stands behind the semicolon and its space

@@ -22,13 +22,13 @@ module _ (line : List ℕ) (end : ℕ) (at : First-index line 0 32 end) where
   apart x rest free e =
       elim (decLt end (length line)) [
         | yes l ↦
-          let s = split-found line 0 32 end at l in
-          let b = before-first 32 (take (end - 0) line) x (drop (end + 1) line) rest (before-free line 0 32 end at) free (sym s ∙ e) in
-          let n : length (take (end - 0) line) ≡ end = omega (arith, length-take-le (end - 0) line (omega arith)) in
-          (b .0, take-rest line end ∙ ap (drop end) s ∙ drop-at (take (end - 0) line) (32 ∷ drop (end + 1) line) end n ∙ ap (λ t. 32 ∷ t) (b .1))
+            let s = split-found line 0 32 end at l in
+            let b = before-first 32 (take (end - 0) line) x (drop (end + 1) line) rest (before-free line 0 32 end at) free (sym s ∙ e) in
+            let n : length (take (end - 0) line) ≡ end = omega (arith, length-take-le (end - 0) line (omega arith)) in
+            (b .0, take-rest line end ∙ ap (drop end) s ∙ drop-at (take (end - 0) line) (32 ∷ drop (end + 1) line) end n ∙ ap (λ t. 32 ∷ t) (b .1))
         | no l ↦
-          let s = split-none line 0 32 end at (omega arith) in
-          absurd (no-first 32 (take (end - 0) line) x rest (before-free line 0 32 end at) (sym s ∙ e))
+            let s = split-none line 0 32 end at (omega arith) in
+            absurd (no-first 32 (take (end - 0) line) x rest (before-free line 0 32 end at) (sym s ∙ e))
       ]
 
   -- a rule line has its numbers and its sign there
@@ -50,9 +50,10 @@ module _ (line : List ℕ) (end : ℕ) (at : First-index line 0 32 end) where
       number ≡ decimal lower →
       Has-form line (rule-line upper r lower)
   rule-joined upper r lower s number u l front back es en =
-      let n : end - 0 ≡ end = omega arith in
-      ((u, l),
-       sym (take-append-drop end line)
-       ∙ ap (λ (t : List ℕ). t ++ drop end line) (ap (λ k. take k line) (sym n) ∙ front)
-       ∙ ap (λ (t : List ℕ). decimal upper ++ t) (sym (take-rest line end) ∙ back ∙ ap (λ y. 32 ∷ y ∷ 32 ∷ number) es ∙ ap (λ t. 32 ∷ sign r ∷ 32 ∷ t) en)
-       ∙ sym (render-rule upper r lower))
+      let n : end - 0 ≡ end = omega arith in (
+        (u, l),
+        sym (take-append-drop end line)
+            ∙ ap (λ (t : List ℕ). t ++ drop end line) (ap (λ k. take k line) (sym n) ∙ front)
+            ∙ ap (λ (t : List ℕ). decimal upper ++ t) (sym (take-rest line end) ∙ back ∙ ap (λ y. 32 ∷ y ∷ 32 ∷ number) es ∙ ap (λ t. 32 ∷ sign r ∷ 32 ∷ t) en)
+            ∙ sym (render-rule upper r lower),
+      )

@@ -4,3 +4,4 @@ mod reading;
 mod right;
 pub mod spelled;
 pub mod spellings;
+mod writing;

@@ -7,7 +7,6 @@ ghost use Rattle.syntax.specs.Syntax.{Symbol, Valid-symbols, production-line};
 ghost use Rattle.file_model.specs.Files.{Does, Reads-line, Reads, Reads-from};
 ghost use Rattle.files.specs.Model.{model, words};
 ghost use Rattle.files.specs.Reading.{Reads-mark, Reads-start, Cuts-word, Cuts-left, Cuts-sign, Reads-rule, Semicolon-at, Gathers, Reads-right, Is-word, Is-production, Is-rule, Reads-as};
-
 use crate::right::PricedRight;
 use crate::right::Right;
 use crate::spelled::SpelledDraft;
@@ -39,7 +38,17 @@ fn read_start(text: &[u8]) -> Option<(u8, &[u8])>
     ensures { λ r. ⌜ Reads-start (now (text .entry)) r ⌝ }
 {
     match text {
-        [b's', b't', b'a', b'r', b't', b' ', letter @ b'A'..=b'P', b'\n', rest @ ..] => Some((*letter - b'A', rest)),
+        [
+            b's',
+            b't',
+            b'a',
+            b'r',
+            b't',
+            b' ',
+            letter @ b'A'..=b'P',
+            b'\n',
+            rest @ ..,
+        ] => Some((*letter - b'A', rest)),
         _ => None,
     }
 }
@@ -133,14 +142,12 @@ impl SpelledDraft {
     // Adds the production of a production line whose right side was read.
     fn add_line(&mut self, left: u8, right: &Right, price: u16) -> Result<(), Refusal>
         requires { ⌜ left < 16 ⌝ }
-        ensures {
-            λ r. ⌜
-                ((ss : List Symbol) →
-                Valid-symbols ss →
-                Gathers (words (now (self .entry) .spellings)) ss (now (right .entry)) →
-                Does (model (now (self .entry))) (production-line left ss price) r (model (now (self .exit))))
-            ⌝
-        }
+        ensures { λ r. ⌜
+            ((ss : List Symbol) →
+            Valid-symbols ss →
+            Gathers (words (now (self .entry) .spellings)) ss (now (right .entry)) →
+            Does (model (now (self .entry))) (production-line left ss price) r (model (now (self .exit))))
+            ⌝ }
     {
         if right.undeclared() {
             return Err(Refusal::File(FileRefusal::Undeclared));
@@ -200,7 +207,10 @@ impl SpelledDraft {
         let mut line = 3;
         while at < text.len() {
             let Some(end) = line_end(text, at) else {
-                return Err(Fault { refusal: Refusal::File(FileRefusal::Form), line });
+                return Err(Fault {
+                    refusal: Refusal::File(FileRefusal::Form),
+                    line,
+                });
             };
             if let Err(refusal) = self.read_line(&text[at..end]) {
                 return Err(Fault { refusal, line });
@@ -217,13 +227,22 @@ impl SpelledDraft {
     {
         *self = SpelledDraft::new();
         if text.len() > 16384 {
-            return Err(Fault { refusal: Refusal::File(FileRefusal::Form), line: 0 });
+            return Err(Fault {
+                refusal: Refusal::File(FileRefusal::Form),
+                line: 0,
+            });
         }
         let Some(rest) = read_mark(text) else {
-            return Err(Fault { refusal: Refusal::File(FileRefusal::Mark), line: 1 });
+            return Err(Fault {
+                refusal: Refusal::File(FileRefusal::Mark),
+                line: 1,
+            });
         };
         let Some((symbol, body)) = read_start(rest) else {
-            return Err(Fault { refusal: Refusal::File(FileRefusal::Form), line: 2 });
+            return Err(Fault {
+                refusal: Refusal::File(FileRefusal::Form),
+                line: 2,
+            });
         };
         let _ = self.draft.set_start(symbol);
         self.read_lines(body)

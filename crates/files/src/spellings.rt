@@ -2,7 +2,6 @@ ghost use mathlib.Core.Path.{_≡_};
 ghost use Prim.Native.Nat.{ℕ, _≤_};
 ghost use lib.ListN.{length};
 ghost use Rattle.files.specs.Stored.{Distinct};
-
 use syntax::spelling::Spelling;
 
 mod methods;

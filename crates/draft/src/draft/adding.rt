@@ -5,19 +5,18 @@ ghost use lib.ListN.{length};
 ghost use Rattle.grammar.specs.Grammar.{empty-grammar};
 ghost use Rattle.grammar.specs.Model.{production};
 ghost use Rattle.draft.specs.Calls.{
-    Sets-start,
-    Out-of-range,
-    No-room,
-    Repeats-sides,
-    Repeats,
-    Adds-production,
-    Names,
-    Repeats-rule,
-    Adds-rule
+  Sets-start,
+  Out-of-range,
+  No-room,
+  Repeats-sides,
+  Repeats,
+  Adds-production,
+  Names,
+  Repeats-rule,
+  Adds-rule,
 };
 ghost use Rattle.draft.specs.Model.{model};
 ghost use Rattle.draft.specs.Stored.{Same-rule};
-
 use super::Draft;
 use derivations::above_itself;
 use derivations::leads_to_itself;
@@ -76,8 +75,18 @@ impl Draft {
         ensures { λ r. ⌜ model r ≡ empty-grammar ⌝ }
     {
         let production = Production::empty(0, 0);
-        let rule = Rule { upper: 0, relation: Relation::Priority, lower: 0 };
-        Draft { start: 0, productions: [production; 32], count: 0, rules: [rule; 64], ruled: 0 }
+        let rule = Rule {
+            upper: 0,
+            relation: Relation::Priority,
+            lower: 0,
+        };
+        Draft {
+            start: 0,
+            productions: [production; 32],
+            count: 0,
+            rules: [rule; 64],
+            ruled: 0,
+        }
     }
 
     // Makes a nonterminal the start symbol, and answers it.
@@ -148,12 +157,10 @@ impl Draft {
 
     // Adds a production, and answers its number, which counts from 1.
     pub fn add_production(&mut self, left: u8, right: &[u8], price: u16) -> Result<u8, DraftRefusal>
-        ensures {
-            λ r. ⌜
-                Adds-production (model (now (self .entry))) (record { left = left; right = now (right .entry); price = price }) r
-                (model (now (self .exit)))
-            ⌝
-        }
+        ensures { λ r. ⌜
+            Adds-production (model (now (self .entry))) (record { left = left; right = now (right .entry); price = price }) r
+            (model (now (self .exit)))
+            ⌝ }
     {
         if !in_range(left, right) {
             return Err(DraftRefusal::Symbol);
@@ -201,7 +208,12 @@ impl Draft {
     }
 
     // Adds a rule between the productions of two numbers, and answers how many rules there are then.
-    pub fn add_rule(&mut self, upper: u16, relation: Relation, lower: u16) -> Result<u8, DraftRefusal>
+    pub fn add_rule(
+        &mut self,
+        upper: u16,
+        relation: Relation,
+        lower: u16,
+    ) -> Result<u8, DraftRefusal>
         ensures { λ r. ⌜ Adds-rule (model (now (self .entry))) upper relation lower r (model (now (self .exit))) ⌝ }
     {
         if self.has_rule(upper, relation, lower) {
@@ -216,6 +228,10 @@ impl Draft {
         if self.ruled >= 64 {
             return Err(DraftRefusal::RulesFull);
         }
-        self.accept_rule(Rule { upper: upper as u8, relation, lower: lower as u8 })
+        self.accept_rule(Rule {
+            upper: upper as u8,
+            relation,
+            lower: lower as u8,
+        })
     }
 }

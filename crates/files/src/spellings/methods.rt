@@ -7,7 +7,6 @@ ghost use Rattle.syntax.specs.Model.{spelling, symbol};
 ghost use Rattle.syntax.specs.Syntax.{name};
 ghost use Rattle.file_model.specs.Spelled.{First, Declared, Declares, Stands-for, Unknown};
 ghost use Rattle.files.specs.Model.{words};
-
 use super::Spellings;
 use grammar::refusals::FileRefusal;
 use syntax::spelling::Spelling;
@@ -18,7 +17,10 @@ impl Spellings {
     pub fn new() -> Spellings
         ensures { λ r. ⌜ words r ≡ [] ⌝ }
     {
-        Spellings { words: [Spelling::Name; 32], count: 0 }
+        Spellings {
+            words: [Spelling::Name; 32],
+            count: 0,
+        }
     }
 
     // How many spellings there are.
@@ -30,12 +32,10 @@ impl Spellings {
 
     // The spelling of a kind, which counts from 16; none where the kind has none.
     pub fn spelling_of(&self, kind: u8) -> Option<Spelling>
-        ensures {
-            λ r. ⌜
-                Cases r ((k : ℕ) → kind ≡ 16 + k → length (words (now (self .entry))) ≤ k)
-                (λ w. (k : ℕ) × (kind ≡ 16 + k) × (k < length (words (now (self .entry)))) × (spelling w ≡ getD (words (now (self .entry))) k name))
-            ⌝
-        }
+        ensures { λ r. ⌜
+            Cases r ((k : ℕ) → kind ≡ 16 + k → length (words (now (self .entry))) ≤ k)
+            (λ w. (k : ℕ) × (kind ≡ 16 + k) × (k < length (words (now (self .entry)))) × (spelling w ≡ getD (words (now (self .entry))) k name))
+            ⌝ }
     {
         if kind < 16 {
             return None;
@@ -49,12 +49,10 @@ impl Spellings {
 
     // The kind that the spelling is of; none where it is not declared.
     pub fn kind_of(&self, word: &Spelling) -> Option<u8>
-        ensures {
-            λ r. ⌜
-                Cases r (¬ Declared (words (now (self .entry))) (spelling (now (word .entry))))
-                (λ kind. (k : ℕ) × First (words (now (self .entry))) (spelling (now (word .entry))) k × (kind ≡ 16 + k))
-            ⌝
-        }
+        ensures { λ r. ⌜
+            Cases r (¬ Declared (words (now (self .entry))) (spelling (now (word .entry))))
+            (λ kind. (k : ℕ) × First (words (now (self .entry))) (spelling (now (word .entry))) k × (kind ≡ 16 + k))
+            ⌝ }
     {
         for i in 0..self.count {
             if self.words[i].same(word) {
@@ -66,12 +64,10 @@ impl Spellings {
 
     // The symbol that a written symbol stands for; none where its spelling is not declared.
     pub fn resolve(&self, written: &Symbol) -> Option<u8>
-        ensures {
-            λ r. ⌜
-                Cases r (Unknown (words (now (self .entry))) (symbol (now (written .entry))))
-                (λ x. Stands-for (words (now (self .entry))) (symbol (now (written .entry))) x)
-            ⌝
-        }
+        ensures { λ r. ⌜
+            Cases r (Unknown (words (now (self .entry))) (symbol (now (written .entry))))
+            (λ x. Stands-for (words (now (self .entry))) (symbol (now (written .entry))) x)
+            ⌝ }
     {
         match written {
             Symbol::Nonterminal(s) => Some(*s),

@@ -4,7 +4,6 @@ ghost use Prim.Native.Nat.{_<_};
 ghost use lib.ListN.{length};
 ghost use Rattle.std.specs.Options.{Cases};
 ghost use Rattle.grammar.specs.Model.{production};
-
 use super::Production;
 
 impl Production {
@@ -12,17 +11,20 @@ impl Production {
     pub fn empty(left: u8, price: u16) -> Production
         ensures { λ r. ⌜ production r ≡ record { left = left; right = []; price = price } ⌝ }
     {
-        Production { left, right: [0; 6], len: 0, price }
+        Production {
+            left,
+            right: [0; 6],
+            len: 0,
+            price,
+        }
     }
 
     // The production with these two sides and this price; none where the right side has more than six symbols.
     pub fn new(left: u8, right: &[u8], price: u16) -> Option<Production>
-        ensures {
-            λ r. ⌜
-                Cases r (6 < length (now (right .entry)))
-                (λ p. production p ≡ record { left = left; right = now (right .entry); price = price })
-            ⌝
-        }
+        ensures { λ r. ⌜
+            Cases r (6 < length (now (right .entry)))
+            (λ p. production p ≡ record { left = left; right = now (right .entry); price = price })
+            ⌝ }
     {
         let len = right.len();
         if len > 6 {
@@ -32,7 +34,12 @@ impl Production {
         for (i, symbol) in right.iter().enumerate() {
             symbols[i] = *symbol;
         }
-        Some(Production { left, right: symbols, len, price })
+        Some(Production {
+            left,
+            right: symbols,
+            len,
+            price,
+        })
     }
 
     // The left nonterminal.

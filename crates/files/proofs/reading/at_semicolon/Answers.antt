@@ -12,5 +12,5 @@ returns-in-59 c =
     let s = c .args .text .now in
     record {
       yes = λ _. (take (length s - 2) (drop 2 s), begins s (59 ∷ 32 ∷ []) (omega (arith, ltb-false)) (omega arith, (omega arith, tt)));
-      no = λ t. absurd (true≢false t)
+      no = λ t. absurd (true≢false t);
     }

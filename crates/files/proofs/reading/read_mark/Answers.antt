@@ -16,8 +16,8 @@ returns-in-82 c =
     record {
       free = mark-no-feed;
       is =
-        begins s (82 ∷ 66 ∷ 75 ∷ 32 ∷ 49 ∷ 10 ∷ []) (omega (arith, ltb-false)) (omega arith, (omega arith, (omega arith, (omega arith, (omega arith, (omega arith, tt))))))
-        ∙ ap (λ m. m ++ 10 ∷ take (length s - 6) (drop 6 s)) (sym mark-bytes)
+          begins s (82 ∷ 66 ∷ 75 ∷ 32 ∷ 49 ∷ 10 ∷ []) (omega (arith, ltb-false)) (omega arith, (omega arith, (omega arith, (omega arith, (omega arith, (omega arith, tt))))))
+          ∙ ap (λ m. m ++ 10 ∷ take (length s - 6) (drop 6 s)) (sym mark-bytes);
     }
 
 pub returns-in-rest : need.returns-in-rest

@@ -23,8 +23,8 @@ returns-in-Break-symbol c =
     let l : c .part-end-end .result < length text = let w = e .within in omega arith in
     rw (c .from-residual .ensures)
     (λ ss price v _ t.
-      let p = part-is text (c .loop-end .at) (i .0) (i .1) (c .part-end-end .result) e (no-semicolon-part text (c .loop-end .at) (c .loop-end-test .ensures tt .no refl)) l ss price v t in
-      c .in-Break-symbol .ensures tt (p .0) (p .1) (p .2))
+    let p = part-is text (c .loop-end .at) (i .0) (i .1) (c .part-end-end .result) e (no-semicolon-part text (c .loop-end .at) (c .loop-end-test .ensures tt .no refl)) l ss price v t in
+    c .in-Break-symbol .ensures tt (p .0) (p .1) (p .2))
 
 pub loop-end-again : need.loop-end-again
 loop-end-again c =
@@ -32,10 +32,11 @@ loop-end-again c =
     let text = c .args .text .now in
     let e = c .part-end-end .ensures in
     let l : c .part-end-end .result < length text = let w = e .within in omega arith in
-    let s = c .in-Continue-symbol .ensures tt in
-    (i .0 ++ symbol (c .in-Continue-symbol .symbol) ∷ [],
-     progress-more text (c .loop-end .at) (i .0) (i .1) (c .part-end-end .result) e (no-semicolon-part text (c .loop-end .at) (c .loop-end-test .ensures tt .no refl)) l (symbol (c .in-Continue-symbol .symbol)) (s .0) (s .1),
-     c .push .ensures (i .0) (i .2))
+    let s = c .in-Continue-symbol .ensures tt in (
+      i .0 ++ symbol (c .in-Continue-symbol .symbol) ∷ [],
+      progress-more text (c .loop-end .at) (i .0) (i .1) (c .part-end-end .result) e (no-semicolon-part text (c .loop-end .at) (c .loop-end-test .ensures tt .no refl)) l (symbol (c .in-Continue-symbol .symbol)) (s .0) (s .1),
+      c .push .ensures (i .0) (i .2),
+    )
 
 -- the semicolon at which the loop ends
 found : (c : need.After-loop-end) → Semicolon-at (c .args .text .now) (c .loop-end .at)

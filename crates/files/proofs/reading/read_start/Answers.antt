@@ -12,12 +12,13 @@ pub returns-in-115 : need.returns-in-115
 returns-in-115 c =
     let s = c .args .text .now in
     let x = getD s 6 0 in
-    let back : 65 + (x - 65) ≡ x = omega arith in
-    (omega arith,
-     record {
-       free = start-no-feed (x - 65);
-       is =
-         begins s (115 ∷ 116 ∷ 97 ∷ 114 ∷ 116 ∷ 32 ∷ x ∷ 10 ∷ []) (omega (arith, ltb-false))
-         (omega arith, (omega arith, (omega arith, (omega arith, (omega arith, (omega arith, (omega arith, (omega arith, tt))))))))
-         ∙ ap (λ y. 115 ∷ 116 ∷ 97 ∷ 114 ∷ 116 ∷ 32 ∷ y ∷ 10 ∷ take (length s - 8) (drop 8 s)) (sym back)
-     })
+    let back : 65 + (x - 65) ≡ x = omega arith in (
+      omega arith,
+      record {
+        free = start-no-feed (x - 65);
+        is =
+            begins s (115 ∷ 116 ∷ 97 ∷ 114 ∷ 116 ∷ 32 ∷ x ∷ 10 ∷ []) (omega (arith, ltb-false))
+            (omega arith, (omega arith, (omega arith, (omega arith, (omega arith, (omega arith, (omega arith, (omega arith, tt))))))))
+            ∙ ap (λ y. 115 ∷ 116 ∷ 97 ∷ 114 ∷ 116 ∷ 32 ∷ y ∷ 10 ∷ take (length s - 8) (drop 8 s)) (sym back);
+      },
+    )

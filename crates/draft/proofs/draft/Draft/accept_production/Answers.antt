@@ -31,11 +31,12 @@ pub returns-then-leads-to-itself : need.returns-then-leads-to-itself
 returns-then-leads-to-itself c =
     let d = c .args .self .now in
     let p = c .args .p in
-    let h = c .if-leads-to-itself .ensures tt .yes refl in
-    (leads-to-itself (h .0, subst (λ (ps : List Production). Leads-on ps (h .0) (h .0)) (longer d p (c .pre .room)) (h .1)),
-     production-none (model d) (production p) 5
-     (record { range = λ _. c .pre .range; long = λ _. short p; room = λ _. c .pre .room; repeats = λ _. c .pre .fresh; loops = λ l. absurd (omega arith) }),
-     refl)
+    let h = c .if-leads-to-itself .ensures tt .yes refl in (
+      leads-to-itself (h .0, subst (λ (ps : List Production). Leads-on ps (h .0) (h .0)) (longer d p (c .pre .room)) (h .1)),
+      production-none (model d) (production p) 5
+          (record { range = λ _. c .pre .range; long = λ _. short p; room = λ _. c .pre .room; repeats = λ _. c .pre .fresh; loops = λ l. absurd (omega arith) }),
+      refl,
+    )
 
 -- with the production there is still no nonterminal that leads to itself
 loops-none : (c : need.Else-leads-to-itself) → ¬ Loops (model (c .args .self .now)) (production (c .args .p))
@@ -53,9 +54,22 @@ pub ghost-self : need.ghost-self
 ghost-self c =
     let d = c .args .self .now in
     let l = free-place d (c .args .p) (c .pre .room) in
-    let w = kept c in
-    (simp length-set (d .room), (omega arith, (d .«rule_room», (d .«few_rules», (λ k e h. let b = d .numbers k e h in (b .0, omega (arith, b .1), b .2, omega (arith, b .3)),
-     (w .small, (d .starts, (w .sides, (w .symbols, (w .prices, (w .apart, (w .named, (w .unrepeated, (w .acyclic, (w .ordered, tt)))))))))))))))
+    let w = kept c in (
+      simp length-set (d .room),
+      (
+        omega arith,
+        (
+          d .«rule_room»,
+          (
+            d .«few_rules»,
+            (
+              λ k e h. let b = d .numbers k e h in (b .0, omega (arith, b .1), b .2, omega (arith, b .3)),
+              (w .small, (d .starts, (w .sides, (w .symbols, (w .prices, (w .apart, (w .named, (w .unrepeated, (w .acyclic, (w .ordered, tt)))))))))),
+            ),
+          ),
+        ),
+      ),
+    )
 
 pub returns : need.returns
 returns c =
@@ -63,7 +77,8 @@ returns c =
     let p = c .args .p in
     let l = free-place d p (c .pre .room) in
     let e = grown d p (c .pre .room) in
-    let none : ¬ Loops (model d) (production p) = λ h. subst Acyclic (longer d p (c .pre .room)) (c .if-leads-to-itself .ensures tt .no refl) (h .0) (h .1) in
-    (λ n. production-none (model d) (production p) (suc n)
-     (record { range = λ _. c .pre .range; long = λ _. short p; room = λ _. c .pre .room; repeats = λ _. c .pre .fresh; loops = λ _. none }) n (omega arith),
-     (counted production (set (d .productions) (d .count) p) (d .count + 1) (omega (arith, length-set (d .productions) (d .count) p)), e))
+    let none : ¬ Loops (model d) (production p) = λ h. subst Acyclic (longer d p (c .pre .room)) (c .if-leads-to-itself .ensures tt .no refl) (h .0) (h .1) in (
+      λ n. production-none (model d) (production p) (suc n)
+          (record { range = λ _. c .pre .range; long = λ _. short p; room = λ _. c .pre .room; repeats = λ _. c .pre .fresh; loops = λ _. none }) n (omega arith),
+      (counted production (set (d .productions) (d .count) p) (d .count + 1) (omega (arith, length-set (d .productions) (d .count) p)), e),
+    )

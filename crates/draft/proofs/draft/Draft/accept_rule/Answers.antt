@@ -32,16 +32,17 @@ pub returns-then-above-itself : need.returns-then-above-itself
 returns-then-above-itself c =
     let d = c .args .self .now in
     let x = c .args .rule in
-    let h = c .if-above-itself .ensures tt .yes refl in
-    (above-itself (h .0, subst (λ (rs : List Rule). Above rs (h .0) (h .0)) (longer-rules d x (c .pre .upper) (c .pre .lower) (c .pre .room)) (h .1)),
-     rule-none (model d) (x .upper) (x .relation) (x .lower) 8
-     (record {
-        repeats = λ _. c .pre .fresh;
-        names = λ _ o. ⊎-elim (λ no. no (c .pre .upper)) (λ no. no (c .pre .lower)) o;
-        room = λ _ full. let r = c .pre .room in omega arith;
-        above = λ l. absurd (omega arith)
-      }),
-     refl)
+    let h = c .if-above-itself .ensures tt .yes refl in (
+      above-itself (h .0, subst (λ (rs : List Rule). Above rs (h .0) (h .0)) (longer-rules d x (c .pre .upper) (c .pre .lower) (c .pre .room)) (h .1)),
+      rule-none (model d) (x .upper) (x .relation) (x .lower) 8
+          (record {
+            repeats = λ _. c .pre .fresh;
+            names = λ _ o. ⊎-elim (λ no. no (c .pre .upper)) (λ no. no (c .pre .lower)) o;
+            room = λ _ full. let r = c .pre .room in omega arith;
+            above = λ l. absurd (omega arith);
+          }),
+      refl,
+    )
 
 -- with the rule there is still no production that has priority over itself
 above-none : (c : need.Else-above-itself) → ¬ Above-itself (model (c .args .self .now)) (rule (c .args .rule))
@@ -60,9 +61,22 @@ ghost-self c =
     let d = c .args .self .now in
     let x = c .args .rule in
     let l = free-rule d x (c .pre .upper) (c .pre .lower) (c .pre .room) in
-    let w = kept c in
-    (d .room, (d .few, (simp length-set (d .«rule_room»), (omega arith, (numbers-kept d x (c .pre .upper) (c .pre .lower) (c .pre .room),
-     (w .small, (d .starts, (w .sides, (w .symbols, (w .prices, (w .apart, (w .named, (w .unrepeated, (w .acyclic, (w .ordered, tt)))))))))))))))
+    let w = kept c in (
+      d .room,
+      (
+        d .few,
+        (
+          simp length-set (d .«rule_room»),
+          (
+            omega arith,
+            (
+              numbers-kept d x (c .pre .upper) (c .pre .lower) (c .pre .room),
+              (w .small, (d .starts, (w .sides, (w .symbols, (w .prices, (w .apart, (w .named, (w .unrepeated, (w .acyclic, (w .ordered, tt)))))))))),
+            ),
+          ),
+        ),
+      ),
+    )
 
 pub returns : need.returns
 returns c =
@@ -71,12 +85,13 @@ returns c =
     let l = free-rule d x (c .pre .upper) (c .pre .lower) (c .pre .room) in
     let e = grown-rules d x (c .pre .upper) (c .pre .lower) (c .pre .room) in
     let none : ¬ Above-itself (model d) (rule x) =
-        λ h. subst Ordered (longer-rules d x (c .pre .upper) (c .pre .lower) (c .pre .room)) (c .if-above-itself .ensures tt .no refl) (h .0) (h .1) in
-    (λ n. rule-none (model d) (x .upper) (x .relation) (x .lower) (suc n)
-     (record {
-        repeats = λ _. c .pre .fresh;
-        names = λ _ o. ⊎-elim (λ no. no (c .pre .upper)) (λ no. no (c .pre .lower)) o;
-        room = λ _ full. let r = c .pre .room in omega arith;
-        above = λ _. none
-      }) n (omega arith),
-     (counted rule (set (d .rules) (d .ruled) x) (d .ruled + 1) (omega (arith, length-set (d .rules) (d .ruled) x)), e))
+    λ h. subst Ordered (longer-rules d x (c .pre .upper) (c .pre .lower) (c .pre .room)) (c .if-above-itself .ensures tt .no refl) (h .0) (h .1) in (
+      λ n. rule-none (model d) (x .upper) (x .relation) (x .lower) (suc n)
+          (record {
+            repeats = λ _. c .pre .fresh;
+            names = λ _ o. ⊎-elim (λ no. no (c .pre .upper)) (λ no. no (c .pre .lower)) o;
+            room = λ _ full. let r = c .pre .room in omega arith;
+            above = λ _. none;
+          }) n (omega arith),
+      (counted rule (set (d .rules) (d .ruled) x) (d .ruled + 1) (omega (arith, length-set (d .rules) (d .ruled) x)), e),
+    )

@@ -29,20 +29,22 @@ pub returns-then-not-has-room : need.returns-then-not-has-room
 returns-then-not-has-room c =
     let g = model (c .args .self .now) in
     let p = asked (c .args .left) (c .args .right .now) (c .args .price) in
-    let e = c .in-Some .ensures tt in
-    (productions-full (subst (No-room g) e (c .if-not-has-room .ensures tt .no refl)),
-     production-none g p 3 (below-three g p (c .if-not-in-range .ensures tt .yes refl) (λ h. short (c .in-Some .production) (subst Too-long (sym e) h))),
-     refl)
+    let e = c .in-Some .ensures tt in (
+      productions-full (subst (No-room g) e (c .if-not-has-room .ensures tt .no refl)),
+      production-none g p 3 (below-three g p (c .if-not-in-range .ensures tt .yes refl) (λ h. short (c .in-Some .production) (subst Too-long (sym e) h))),
+      refl,
+    )
 
 pub returns-then-has-sides : need.returns-then-has-sides
 returns-then-has-sides c =
     let g = model (c .args .self .now) in
     let p = asked (c .args .left) (c .args .right .now) (c .args .price) in
-    let e = c .in-Some .ensures tt in
-    (sides-repeated (c .if-has-sides .ensures tt .yes refl),
-     production-none g p 4
-     (below-four g p (c .if-not-in-range .ensures tt .yes refl) (λ h. short (c .in-Some .production) (subst Too-long (sym e) h)) (λ h. c .if-not-has-room .ensures tt .yes refl (subst (No-room g) (sym e) h))),
-     refl)
+    let e = c .in-Some .ensures tt in (
+      sides-repeated (c .if-has-sides .ensures tt .yes refl),
+      production-none g p 4
+          (below-four g p (c .if-not-in-range .ensures tt .yes refl) (λ h. short (c .in-Some .production) (subst Too-long (sym e) h)) (λ h. c .if-not-has-room .ensures tt .yes refl (subst (No-room g) (sym e) h))),
+      refl,
+    )
 
 pub accept-production-requires : need.accept-production-requires
 accept-production-requires c κs =
@@ -51,5 +53,5 @@ accept-production-requires c κs =
     record {
       range = λ h. c .if-not-in-range .ensures tt .yes refl (subst Out-of-range e h);
       room = c .if-not-has-room .ensures tt .yes refl;
-      fresh = λ h. c .if-has-sides .ensures tt .no refl (subst (Repeats g) e h)
+      fresh = λ h. c .if-has-sides .ensures tt .no refl (subst (Repeats g) e h);
     }

@@ -22,5 +22,5 @@ returns c =
     let l = ap length (c .right .ensures) in
     record {
       yes = λ t out. ⊎-elim (λ h. omega (arith, n)) (λ h. omega (arith, e, l, leb-true _ _ t, c .place-count .ensures)) out;
-      no = λ t. inr (omega (arith, e, l, leb-false _ _ t, c .place-count .ensures))
+      no = λ t. inr (omega (arith, e, l, leb-false _ _ t, c .place-count .ensures));
     }

@@ -15,7 +15,7 @@ returns-then-same-rule c =
     let d = c .args .self .now in
     record {
       yes = λ _. says-it (d .rules) (d .ruled) (d .count) (omega arith) (d .numbers) (c .args .upper) (c .args .relation) (c .args .lower) (c .loop-i .i) _ (omega arith) (c .if-same-rule .ensures tt .yes refl);
-      no = λ t. absurd (true≢false t)
+      no = λ t. absurd (true≢false t);
     }
 
 pub loop-i-again : need.loop-i-again
@@ -30,5 +30,5 @@ returns c =
     let d = c .args .self .now in
     record {
       yes = λ t. absurd (false≢true t);
-      no = λ _ s. let f = said-by (d .rules) (d .ruled) (d .count) (omega arith) (d .numbers) (c .args .upper) (c .args .relation) (c .args .lower) no-numbered s in c .loop-i .inv (f .0) (omega (arith, f .1)) no-numbered (f .2)
+      no = λ _ s. let f = said-by (d .rules) (d .ruled) (d .count) (omega arith) (d .numbers) (c .args .upper) (c .args .relation) (c .args .lower) no-numbered s in c .loop-i .inv (f .0) (omega (arith, f .1)) no-numbered (f .2);
     }

@@ -18,7 +18,7 @@ returns-then-same-sides c =
     let s = c .if-same-sides .ensures tt .yes refl in
     record {
       yes = λ _. (i, omega (arith, counted production (d .productions) (d .count) (omega arith)), sym (ap (λ (p : Production). p .left) e) ∙ s .0, sym (ap (λ (p : Production). p .right) e) ∙ s .1);
-      no = λ t. absurd (true≢false t)
+      no = λ t. absurd (true≢false t);
     }
 
 pub loop-i-again : need.loop-i-again

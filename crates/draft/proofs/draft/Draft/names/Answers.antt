@@ -10,5 +10,5 @@ returns c =
     let n = counted production (d .productions) (d .count) (omega arith) in
     record {
       yes = λ t. (omega arith, omega (arith, n, leb-true _ _ t));
-      no = λ t h. omega (arith, n, leb-false _ _ t, h .1)
+      no = λ t h. omega (arith, n, leb-false _ _ t, h .1);
     }

@@ -11,7 +11,7 @@ returns-then-number-eq0 c h =
     let d = c .args .self .now in
     let n = counted production (d .productions) (d .count) (omega arith) in
     elim (c .then-number-eq0 .came) [
-      then-number-eq0·by·then-number-eq0 w ↦ omega arith
+      | then-number-eq0·by·then-number-eq0 w ↦ omega arith
       | then-number-eq0·by·else-number-eq0·then-number-self w ↦ omega (arith, n)
     ]
 

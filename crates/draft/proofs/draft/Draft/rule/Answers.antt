@@ -11,7 +11,7 @@ returns-then-number-eq0 c h =
     let d = c .args .self .now in
     let n = counted rule (d .rules) (d .ruled) (omega arith) in
     elim (c .then-number-eq0 .came) [
-      then-number-eq0·by·then-number-eq0 w ↦ omega arith
+      | then-number-eq0·by·then-number-eq0 w ↦ omega arith
       | then-number-eq0·by·else-number-eq0·then-number-self w ↦ omega (arith, n)
     ]
 
@@ -19,4 +19,5 @@ pub returns : need.returns
 returns c =
     let d = c .args .self .now in
     let n = counted rule (d .rules) (d .ruled) (omega arith) in
-    ((omega arith, omega (arith, n)), looked rule (d .rules) (d .ruled) (c .args .number - 1) _ no-rule (omega arith) (omega arith))
+    let k = c .args .number - 1 in
+    ((omega arith, omega (arith, n)), looked rule (d .rules) (d .ruled) k _ no-rule (omega arith) (omega arith), d .numbers k _ (omega arith) .0, d .numbers k _ (omega arith) .2)

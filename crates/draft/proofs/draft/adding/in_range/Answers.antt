@@ -15,5 +15,5 @@ pub returns : need.returns
 returns c =
     record {
       yes = λ _ out. ⊎-elim (λ h. omega arith) (λ h. let k = c .loop-symbol .inv (h .0) (omega (arith, h .1)) in omega (arith, h .2)) out;
-      no = λ t. absurd (true≢false t)
+      no = λ t. absurd (true≢false t);
     }

@@ -9,5 +9,5 @@ returns c =
     let e = c .right .ensures in
     record {
       yes = λ t. (sym (c .left .ensures) ∙ c .if-left .left, sym e ∙ d .0 t);
-      no = λ t l r. both-ways _ t (d .1 (e ∙ r))
+      no = λ t l r. both-ways _ t (d .1 (e ∙ r));
     }

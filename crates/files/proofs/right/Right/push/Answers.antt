@@ -20,10 +20,12 @@ returns-then-self-lt6 c ss g =
     record {
       missing = λ t. undeclared-more ws ss s (g .missing t);
       stands = λ f.
-        let o = g .stands f in
-        (o .0 ++ x ∷ [], right-push ws ss (o .0) s x (o .1) (c .in-Some .ensures tt),
-         λ few. ap (λ (l : List ℕ). l ++ x ∷ []) (o .2 (omega arith)) ∙ sym (take-more-set (r .symbols) (r .count) x (omega arith)),
-         λ many. absurd (omega arith))
+          let o = g .stands f in (
+            o .0 ++ x ∷ [],
+            right-push ws ss (o .0) s x (o .1) (c .in-Some .ensures tt),
+            λ few. ap (λ (l : List ℕ). l ++ x ∷ []) (o .2 (omega arith)) ∙ sym (take-more-set (r .symbols) (r .count) x (omega arith)),
+            λ many. absurd (omega arith),
+          );
     }
 
 pub returns-else-self-lt6 : need.returns-else-self-lt6
@@ -35,13 +37,13 @@ returns-else-self-lt6 c ss g =
     record {
       missing = λ t. undeclared-more ws ss s (g .missing t);
       stands = λ f.
-        let o = g .stands f in
-        let long : 6 ≤ length (o .0) =
-            elim (decLt 6 (r .count)) [
-              | yes l ↦ omega (arith, o .3 l)
-              | no l ↦ omega (arith, ap length (o .2 (omega arith)), length-take-le (r .count) (r .symbols) (omega arith))
-            ] in
-        (o .0 ++ x ∷ [], right-push ws ss (o .0) s x (o .1) (c .in-Some .ensures tt), λ few. absurd (omega arith), λ many. omega (arith, length-push (o .0) x))
+          let o = g .stands f in
+          let long : 6 ≤ length (o .0) =
+          elim (decLt 6 (r .count)) [
+            | yes l ↦ omega (arith, o .3 l)
+            | no l ↦ omega (arith, ap length (o .2 (omega arith)), length-take-le (r .count) (r .symbols) (omega arith))
+          ] in
+          (o .0 ++ x ∷ [], right-push ws ss (o .0) s x (o .1) (c .in-Some .ensures tt), λ few. absurd (omega arith), λ many. omega (arith, length-push (o .0) x));
     }
 
 pub returns-in-None : need.returns-in-None

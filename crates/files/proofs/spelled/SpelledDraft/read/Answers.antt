@@ -31,9 +31,9 @@ returns c =
     let s = c .in-Some-read-start .symbol in
     let new = c .new .ensures in
     let start : grammar-of (c .set-start .last .self) ≡ with-start (grammar-of (c .new .result .draft)) s =
-        started-at (grammar-of (c .new .result .draft)) s (c .set-start .result) (grammar-of (c .set-start .last .self)) (c .in-Some-read-start .ensures tt .0) (c .set-start .ensures) in
+    started-at (grammar-of (c .new .result .draft)) s (c .set-start .result) (grammar-of (c .set-start .last .self)) (c .in-Some-read-start .ensures tt .0) (c .set-start .ensures) in
     let from : _≡_ {A = Spelled} (record { draft = grammar-of (c .set-start .last .self); spellings = words (c .new .result .spellings) }) (started s) =
-        ap (λ (g : Grammar). record { draft = g; spellings = words (c .new .result .spellings) }) start
-        ∙ ap (λ (x : Spelled). record { draft = with-start (x .draft) s; spellings = x .spellings }) new in
+    ap (λ (g : Grammar). record { draft = g; spellings = words (c .new .result .spellings) }) start
+    ∙ ap (λ (x : Spelled). record { draft = with-start (x .draft) s; spellings = x .spellings }) new in
     from-start (c .if-text-gt16384 .left) (c .in-Some .ensures tt) (c .in-Some-read-start .ensures tt .0) (c .in-Some-read-start .ensures tt .1)
     (subst (λ (x : Spelled). Reads-from 3 x (c .in-Some-read-start .body .now) (c .read-lines .result) (model (c .read-lines .last .self))) from (c .read-lines .ensures))

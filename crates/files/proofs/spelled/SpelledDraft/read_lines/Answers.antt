@@ -28,12 +28,14 @@ pub loop-at-again : need.loop-at-again
 loop-at-again c =
     let e = c .in-Some .ensures tt in
     let low = e .1 .after in
-    let inv = c .loop-at .inv in
-    (omega (arith, e .0), omega (arith, inv .1),
-     λ r t h.
-       inv .2 r t
-       (reads-on (line-at (c .args .text .now) (c .loop-at .at) (c .in-Some .end) (e .1) (e .0)) (c .in-rest-read-line .ensures tt)
-        (subst (λ (n : ℕ). Reads-from n (model (c .read-line .last .self)) (drop (c .in-Some .end + 1) (c .args .text .now)) r t) (add-one (c .loop-at .line)) h)))
+    let inv = c .loop-at .inv in (
+      omega (arith, e .0),
+      omega (arith, inv .1),
+      λ r t h.
+          inv .2 r t
+          (reads-on (line-at (c .args .text .now) (c .loop-at .at) (c .in-Some .end) (e .1) (e .0)) (c .in-rest-read-line .ensures tt)
+          (subst (λ (n : ℕ). Reads-from n (model (c .read-line .last .self)) (drop (c .in-Some .end + 1) (c .args .text .now)) r t) (add-one (c .loop-at .line)) h)),
+    )
 
 pub returns : need.returns
 returns c =

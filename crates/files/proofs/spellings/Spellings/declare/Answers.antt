@@ -28,6 +28,7 @@ ghost-self c =
 pub returns : need.returns
 returns c =
     let s = c .args .self .now in
-    let n = counted spelling (s .words) (s .count) (omega arith) in
-    (none-at-all (words s) (spelling (c .args .word)) (c .in-rest .ensures tt) (omega (arith, n)),
-     (ap (λ k. 16 + k) n, pushed spelling (s .words) (s .count) (c .args .word) (omega arith)))
+    let n = counted spelling (s .words) (s .count) (omega arith) in (
+      none-at-all (words s) (spelling (c .args .word)) (c .in-rest .ensures tt) (omega (arith, n)),
+      (ap (λ k. 16 + k) n, pushed spelling (s .words) (s .count) (c .args .word) (omega arith)),
+    )

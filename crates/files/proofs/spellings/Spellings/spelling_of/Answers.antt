@@ -12,6 +12,9 @@ returns-then-index-self c k e =
 pub returns : need.returns
 returns c =
     let s = c .args .self .now in
-    let i = c .from-index .result in
-    (i, omega (arith, c .from-index .ensures), omega (arith, counted spelling (s .words) (s .count) (omega arith)),
-     looked spelling (s .words) (s .count) i (c .index-self-index .result) name (omega arith) (omega arith))
+    let i = c .from-index .result in (
+      i,
+      omega (arith, c .from-index .ensures),
+      omega (arith, counted spelling (s .words) (s .count) (omega arith)),
+      looked spelling (s .words) (s .count) i (c .index-self-index .result) name (omega arith) (omega arith),
+    )

@@ -13,9 +13,10 @@ loop-i-again c =
     let s = c .args .right .now in
     let i = c .loop-i .i in
     let lo : i < length (c .loop-i .symbols) = omega arith in
-    let lr : i < length s = omega arith in
-    (simp length-set (c .loop-i .inv .0),
-     take-more-set (c .loop-i .symbols) i _ lo ∙ ap (λ t. t ++ getD s i 0 ∷ []) (c .loop-i .inv .1) ∙ sym (take-more s i 0 lr))
+    let lr : i < length s = omega arith in (
+      simp length-set (c .loop-i .inv .0),
+      take-more-set (c .loop-i .symbols) i _ lo ∙ ap (λ t. t ++ getD s i 0 ∷ []) (c .loop-i .inv .1) ∙ sym (take-more s i 0 lr),
+    )
 
 pub returns : need.returns
 returns c =
