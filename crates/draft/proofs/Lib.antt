@@ -2,4 +2,5 @@ pub mod Accepting
 pub mod Causes
 pub mod Growing
 pub mod Rules
+pub mod Sealing
 pub mod Tables

@@ -1,3 +1,4 @@
 pub mod Calls
 pub mod Stored
 pub mod Model
+pub mod Sealed

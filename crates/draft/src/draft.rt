@@ -8,9 +8,10 @@ use grammar::rule::Rule;
 
 mod adding;
 mod reading;
+mod sealing;
 
 // A grammar that is being written: a start symbol, at most 32 productions and at most 64 rules.
-#[derive(Clone, Copy)]
+#[derive(Drop)]
 pub struct Draft {
     start: u8,
     productions: [Production; 32],

@@ -1,3 +1,4 @@
+use crate::same::copy_of;
 use crate::same::same_draft;
 use draft::draft::Draft;
 use grammar::refusals::DraftRefusal;
@@ -32,7 +33,7 @@ struct Ruled(u16, Relation, u16, Answer);
 // Adds each production in turn, and answers how many. A refused one leaves the draft as it was.
 fn add_productions(draft: &mut Draft, cases: &[Added]) -> Result<usize, Fail> {
     for Added(left, right, answer) in cases {
-        let before = *draft;
+        let before = copy_of(draft)?;
         check_eq(draft.add_production(*left, right, 1), *answer).note(format_args!(
             "{left} = {right:?}"
         ))?;
@@ -44,7 +45,7 @@ fn add_productions(draft: &mut Draft, cases: &[Added]) -> Result<usize, Fail> {
 // Adds each rule in turn, and answers how many. A refused one leaves the draft as it was.
 fn add_rules(draft: &mut Draft, cases: &[Ruled]) -> Result<usize, Fail> {
     for Ruled(upper, relation, lower, answer) in cases {
-        let before = *draft;
+        let before = copy_of(draft)?;
         check_eq(draft.add_rule(*upper, *relation, *lower), *answer).note(format_args!(
             "{upper} {lower}"
         ))?;

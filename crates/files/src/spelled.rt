@@ -4,7 +4,7 @@ use draft::draft::Draft;
 mod methods;
 
 // A draft with the spellings of its kinds.
-#[derive(Clone, Copy)]
+#[derive(Drop)]
 pub struct SpelledDraft {
     pub draft: Draft,
     pub spellings: Spellings,

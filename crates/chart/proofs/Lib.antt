@@ -1,0 +1,9 @@
+pub mod Digits
+pub mod Pairs
+pub mod Growing
+pub mod Gathering
+pub mod Bounds
+pub mod Places
+pub mod Steady
+pub mod Columns
+pub mod Words

@@ -1,0 +1,9 @@
+pub mod Relating
+pub mod Counting
+pub mod Marks
+pub mod Members
+pub mod Tabulating
+pub mod Least
+pub mod Falling
+pub mod Building
+pub mod Truncating

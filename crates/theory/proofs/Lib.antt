@@ -1,0 +1,11 @@
+pub mod Lists
+pub mod Extending
+pub mod Sound
+pub mod Complete
+pub mod Exact
+pub mod Least
+pub mod Decisions
+pub mod Saturation
+pub mod Conflicts
+pub mod Live
+pub mod Items
