@@ -5,6 +5,8 @@ mod drafts;
 #[cfg(test)]
 mod reading;
 #[cfg(test)]
+mod readings;
+#[cfg(test)]
 mod same;
 #[cfg(test)]
 mod writing;

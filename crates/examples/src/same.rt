@@ -50,7 +50,10 @@ pub(crate) fn copy_of(draft: &Draft) -> Result<Draft, Fail> {
     }
     for number in 1..65 {
         if let Some(rule) = draft.rule(number) {
-            check(copy.add_rule(u16::from(rule.upper), rule.relation, u16::from(rule.lower)).is_ok())?;
+            check(
+                copy.add_rule(u16::from(rule.upper), rule.relation, u16::from(rule.lower))
+                    .is_ok(),
+            )?;
         }
     }
     Ok(copy)

@@ -1,23 +1,14 @@
 ghost use mathlib.Core.Path.{_≡_};
-ghost use mathlib.Core.Bool.{true, false};
-ghost use lib.ListN.{length};
-ghost use Rattle.reading.specs.Readings.{Long, cells, Put, Taken-back, Looked, Opened};
+ghost use Rattle.reading.specs.Readings.{Put, Taken-back, Looked, Opened};
 ghost use denote.Ref.{name};
 use super::Reading;
+use crate::chart_fits;
 use crate::standing::Standing;
 use chart::accepts;
 use chart::expected_kinds;
 use chart::open_chart;
 use draft::sealed::Grammar;
 use grammar::refusals::ReadingRefusal;
-
-// Whether the chart is long enough for a reading: 4802 cells.
-pub fn chart_fits(chart: &[u64]) -> bool
-    ensures yes { λ r. ⌜ (r ≡ true → Long (now (chart .entry))) ⌝ }
-    ensures no { λ r. ⌜ (r ≡ false → ¬ Long (now (chart .entry))) ⌝ }
-{
-    chart.len() >= 4802
-}
 
 impl<'b, 'c> Reading<'b, 'c> {
     // A reading of the grammar with no words, on the lent chart. A chart that is too short stays as it is.
