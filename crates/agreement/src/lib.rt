@@ -1,5 +1,7 @@
 //! What readings of grammars with the same content agree on, and the histories of readings.
 
+#![tactic(auto)]
+
 pub mod answer;
 pub mod call;
 pub mod play;

@@ -1,5 +1,7 @@
 //! Sets of numbers below 32, as bits of a number, and relations between such numbers, as rows of bits.
 
+#![tactic(auto)]
+
 ghost use Rattle.std.specs.Prelude.{◌≡◌, ℕ, ◌<◌, ◌≤◌, true, false, ◌⊎◌, ◌↔◌};
 ghost use Rattle.bitset.specs.Bits.{Has};
 

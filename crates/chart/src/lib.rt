@@ -4,6 +4,8 @@
 //! exactly if the item is derivable from the words. The first 4802 cells are the chart, and no other cell is written.
 //! Kinds are numbered from 0 here: the kind k is the symbol 16 + k.
 
+#![tactic(auto)]
+
 ghost use Rattle.std.specs.Prelude.{◌≡◌, ℕ, ◌+◌, ◌*◌, ◌<◌, ◌≤◌, true, false, ◌⊎◌, ◌↔◌, List, [], ◌∷◌, ◌++◌, length};
 ghost use Rattle.bitset.specs.Bits.{Has};
 ghost use Rattle.grammar.specs.Grammar.{Grammar};

@@ -1,5 +1,7 @@
 //! Clients of a reading: each takes any sealed grammar and a lent chart, and its contract says what it answers for a small grammar.
 
+#![tactic(auto)]
+
 pub mod lines;
 
 ghost use Rattle.std.specs.Prelude.{◌≡◌, ◌*◌, ◌≤◌, ◌++◌, length, drop, Ok, Err};

@@ -1,6 +1,8 @@
 //! What the productions and the rules of a grammar derive: which nonterminals derive the empty list, which lead to
 //! which, and which productions have priority over which.
 
+#![tactic(auto)]
+
 ghost use Rattle.std.specs.Prelude.{◌≡◌, ℕ, ◌<◌, ◌≤◌, true, false, ◌⊎◌, ◌↔◌, length};
 ghost use Rattle.grammar.specs.Grammar.{Nonterminal};
 ghost use Rattle.grammar.specs.Order.{Above};

@@ -1,4 +1,6 @@
 //! Drafts: productions and rules as they are accepted or refused.
 
+#![tactic(auto)]
+
 pub mod draft;
 pub mod sealed;

@@ -1,5 +1,7 @@
 //! The reader as one call for C programs.
 
+#![tactic(auto)]
+
 ghost use Rattle.std.specs.Prelude.{◌≡◌, ◌*◌, ◌≤◌, length};
 ghost use Rattle.files.specs.Model.{model};
 ghost use Rattle.reading.specs.Readings.{Long, Marks, cells, grammar_of, words};

@@ -1,6 +1,8 @@
 //! Examples: tests at the edges of every refusal, of readings, listings, scores and histories; and the proved examples, under one
 //! statement.
 
+#![tactic(auto)]
+
 #[cfg(test)]
 mod drafts;
 #[cfg(test)]

@@ -1,6 +1,8 @@
 //! Reads the grammar file `book.rbk` in the current folder and lines from standard input, and prints what each line is,
 //! found by trying all trees.
 
+#![tactic(auto)]
+
 mod book;
 mod conflicts;
 mod counting;

@@ -1,5 +1,7 @@
 //! The model of grammar files and the theory about it: a text has one reading, and what is written is read back.
 
+#![tactic(auto)]
+
 pub mod fault;
 
 ghost use Rattle.file_model.specs.Files.{UniqueReadings, WrittenIsReadBack};

@@ -1,5 +1,7 @@
 //! Lines of text: how a line is cut into words, what kind each word has, and how a line is put into a reading.
 
+#![tactic(auto)]
+
 mod bytes;
 pub mod fault;
 pub mod kinds;

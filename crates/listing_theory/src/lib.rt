@@ -1,5 +1,7 @@
 //! The theory of listings: each function's contract is a theorem, and its body does nothing.
 
+#![tactic(auto)]
+
 ghost use Rattle.listing_theory.specs.Claims.{ListingsApart};
 ghost use Rattle.listing_theory.specs.Paths.{ShortPaths};
 

@@ -1,5 +1,7 @@
 //! Readings: words put one by one against a sealed grammar, on a chart that the caller lends.
 
+#![tactic(auto)]
+
 pub mod reading;
 pub mod standing;
 

@@ -1,5 +1,7 @@
 //! Grammars with the same content in any order: each function's contract is a theorem, and its body does nothing.
 
+#![tactic(auto)]
+
 ghost use Rattle.sameness.specs.Claims.{Sameness, SameReading, MoreReading, SameScores};
 
 use scales::Semiring;

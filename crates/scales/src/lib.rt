@@ -1,5 +1,7 @@
 //! Scales: semirings on which the trees of words are weighed.
 
+#![tactic(auto)]
+
 ghost use Rattle.std.specs.Prelude.{◌≡◌};
 ghost use Rattle.scales.specs.Scales.{Scale, SemiringLaws};
 

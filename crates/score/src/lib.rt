@@ -3,6 +3,8 @@
 //! A table that the caller lends takes the sum over the ways of each production, dot, origin and end. Each entry is
 //! filled in once, from entries that are filled in before it.
 
+#![tactic(auto)]
+
 ghost use Rattle.std.specs.Prelude.{◌≡◌, ◌+◌, ◌*◌, ◌≤◌, length};
 ghost use Rattle.grammar.specs.Grammar.{Grammar, places};
 ghost use Rattle.grammar.specs.Model.{productions as productions-of};

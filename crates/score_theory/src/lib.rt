@@ -1,5 +1,7 @@
 //! The theory of scores: each function's contract is a theorem, and its body does nothing.
 
+#![tactic(auto)]
+
 ghost use Rattle.score_theory.specs.Scores.{Scored};
 ghost use Rattle.score_theory.specs.Totals.{OneTotal};
 

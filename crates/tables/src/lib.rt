@@ -1,5 +1,7 @@
 //! The tables of a sealed grammar, by which a reader works: places, conflicts and live productions as sets of bits.
 
+#![tactic(auto)]
+
 ghost use Rattle.grammar.specs.Sound.{WellFormed};
 ghost use Rattle.derivations.specs.Ranges.{Numbers};
 ghost use Rattle.tables.specs.Meaning.{Means};

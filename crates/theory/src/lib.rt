@@ -1,5 +1,7 @@
 //! The theory of grammars and their items: each function's contract is a theorem, and its body does nothing.
 
+#![tactic(auto)]
+
 ghost use Rattle.theory.specs.Claims.{LiveRoots, Sentences, ViableKinds};
 ghost use Rattle.theory.specs.Decided.{ConflictsDecided, LiveDecided, ItemsDecided};
 

@@ -1,5 +1,7 @@
 //! Reads the grammar file `book.rbk` in the current folder and lines from standard input, and prints what each line is.
 
+#![tactic(auto)]
+
 ghost use Rattle.std.specs.Prelude.{◌≡◌};
 
 mod input_laws;
