@@ -32,6 +32,7 @@ SPELLED = {
     "run-word": "word_of_run",
 }
 OUTSIDE = re.compile(r"use ((?:Rattle\.std|lib|borrow|Prim|mathlib|native|denote|logic|base|seplogic)(?:\.[\w']+)*)\.\{([^}]*)\}")
+INNER = re.compile(r"(?m)^[ \t]+pub (?:abbrev )?([A-Za-z][\w'?-]*)\s*(?=[:({])")
 TOP = re.compile(r"(?m)^(?:(?:abbrev|unfoldable|pub|record|data|ruleset)\s+)*([A-Za-z][\w'?-]*)\s*(?=[:({])")
 BLOCK = re.compile(r"(?m)^(?:pub )?(?:record|data) [^\n]*where\n((?:[ \t]+[^\n]*\n|\n)*)")
 FIELD = re.compile(r"(?m)^\s+(?:pub )?([A-Za-z][\w'?-]*)\s*:")
@@ -79,7 +80,7 @@ def collect(texts):
     for path, text in texts.items():
         if not is_lemmas(path):
             continue
-        defined |= set(TOP.findall(text))
+        defined |= set(TOP.findall(text)) | set(INNER.findall(text))
         for block in BLOCK.findall(text):
             fields |= set(FIELD.findall(block))
     return defined, fields
@@ -118,7 +119,7 @@ def turn(path, text, defined, fields):
                 return name
         elif name in outside or name in goals:
             return name
-        elif not (name in defined or name in fields or name in here or (lemmas and "-" in name)):
+        elif not (name in defined or name in fields or name in here or ("-" in name and (lemmas or spelled(name, text) in defined))):
             return name
         return spelled(name, text)
 

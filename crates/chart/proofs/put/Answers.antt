@@ -1,5 +1,5 @@
 use Rattle.std.proofs.Common.{refl, ◌∙◌, inr, arith, rules}
-use Rattle.chart.proofs.Words.{awaited, put-charted}
+use Rattle.chart.proofs.Words.{awaited, put_charted}
 use Rattle.chart.proofs.put.Goals as goal
 
 pub returns-then-not-meets : goal.returns-then-not-meets
@@ -25,7 +25,7 @@ returns c =
       taken = λ _ g ws m len chart. (
         (awaited t n kind _ _ cells (omega arith) (omega arith) c.gather.ensures g ws m len chart).0
             (c.meets.ensures.yes c.if-not-meets.false),
-        put-charted t n kind (omega arith) cells c.scan.new.cells c.close-column.new.cells
+        put_charted t n kind (omega arith) cells c.scan.new.cells c.close-column.new.cells
             c.scan.ensures c.close-column.ensures.closed g ws m len chart,
       );
       refused = λ t. search rules;

@@ -1,7 +1,7 @@
 use Rattle.std.proofs.Common.{[], Ok, rules}
 use Rattle.small_grammars.specs.Grammars.{conditions_grammar}
-use Rattle.clients.proofs.Calls.{opened_stands, opened_short, back-stands, never}
-use Rattle.clients.proofs.conditions_grammar.{put-name, put-open, put-open-name, look-empty, look-name, look-open-name}
+use Rattle.clients.proofs.Calls.{opened_stands, opened_short, back_stands, never}
+use Rattle.clients.proofs.conditions_grammar.{put_name, put_open, put_open_name, look_empty, look_name, look_open_name}
 use Rattle.clients.proofs.conditions_seen.Goals as goal
 
 pub returns-in-err-put : goal.returns-in-err-put
@@ -9,7 +9,7 @@ returns-in-err-put c =
     let o = c.open-reading.ensures in
     record {
       conditions = λ m l.
-          let a = put-name _ _ _ c.put.ensures (opened_stands _ _ _ conditions_grammar o.opened o.grammar m l) in
+          let a = put_name _ _ _ c.put.ensures (opened_stands _ _ _ conditions_grammar o.opened o.grammar m l) in
           absurd (never _ _ _ a.0 c.in-err-put.was);
       short = λ n. absurd (opened_short _ _ o.opened n c.in-ok-empty.ensures.0);
     }
@@ -19,8 +19,8 @@ returns-in-err-take-back c =
     let o = c.open-reading.ensures in
     record {
       conditions = λ m l.
-          let a = put-name _ _ _ c.put.ensures (opened_stands _ _ _ conditions_grammar o.opened o.grammar m l) in
-          let b = back-stands _ _ conditions_grammar [] 21 _ c.take-back.ensures a.1 in
+          let a = put_name _ _ _ c.put.ensures (opened_stands _ _ _ conditions_grammar o.opened o.grammar m l) in
+          let b = back_stands _ _ conditions_grammar [] 21 _ c.take-back.ensures a.1 in
           absurd (never _ _ _ b.0 c.in-err-take-back.was);
       short = λ n. absurd (opened_short _ _ o.opened n c.in-ok-empty.ensures.0);
     }
@@ -30,9 +30,9 @@ returns-in-err-put-2 c =
     let o = c.open-reading.ensures in
     record {
       conditions = λ m l.
-          let a = put-name _ _ _ c.put.ensures (opened_stands _ _ _ conditions_grammar o.opened o.grammar m l) in
-          let b = back-stands _ _ conditions_grammar [] 21 _ c.take-back.ensures a.1 in
-          let d = put-open _ _ _ c.put-2.ensures b.1 in
+          let a = put_name _ _ _ c.put.ensures (opened_stands _ _ _ conditions_grammar o.opened o.grammar m l) in
+          let b = back_stands _ _ conditions_grammar [] 21 _ c.take-back.ensures a.1 in
+          let d = put_open _ _ _ c.put-2.ensures b.1 in
           absurd (never _ _ _ d.0 c.in-err-put-2.was);
       short = λ n. absurd (opened_short _ _ o.opened n c.in-ok-empty.ensures.0);
     }
@@ -42,10 +42,10 @@ returns-in-err-put-3 c =
     let o = c.open-reading.ensures in
     record {
       conditions = λ m l.
-          let a = put-name _ _ _ c.put.ensures (opened_stands _ _ _ conditions_grammar o.opened o.grammar m l) in
-          let b = back-stands _ _ conditions_grammar [] 21 _ c.take-back.ensures a.1 in
-          let d = put-open _ _ _ c.put-2.ensures b.1 in
-          let e = put-open-name _ _ _ c.put-3.ensures d.1 in
+          let a = put_name _ _ _ c.put.ensures (opened_stands _ _ _ conditions_grammar o.opened o.grammar m l) in
+          let b = back_stands _ _ conditions_grammar [] 21 _ c.take-back.ensures a.1 in
+          let d = put_open _ _ _ c.put-2.ensures b.1 in
+          let e = put_open_name _ _ _ c.put-3.ensures d.1 in
           absurd (never _ _ _ e.0 c.in-err-put-3.was);
       short = λ n. absurd (opened_short _ _ o.opened n c.in-ok-empty.ensures.0);
     }
@@ -56,13 +56,13 @@ returns c =
     record {
       conditions = λ m l.
           let s = opened_stands _ _ _ conditions_grammar o.opened o.grammar m l in
-          let a = put-name _ _ _ c.put.ensures s in
-          let b = back-stands _ _ conditions_grammar [] 21 _ c.take-back.ensures a.1 in
-          let d = put-open _ _ _ c.put-2.ensures b.1 in
-          let e = put-open-name _ _ _ c.put-3.ensures d.1 in
-          let x = look-empty _ _ c.in-ok-empty.ensures (search rules) s in
-          let y = look-name _ _ c.in-ok-name.ensures (search rules) a.1 in
-          let z = look-open-name _ _ c.in-ok-open-name.ensures (search rules) e.1 in
+          let a = put_name _ _ _ c.put.ensures s in
+          let b = back_stands _ _ conditions_grammar [] 21 _ c.take-back.ensures a.1 in
+          let d = put_open _ _ _ c.put-2.ensures b.1 in
+          let e = put_open_name _ _ _ c.put-3.ensures d.1 in
+          let x = look_empty _ _ c.in-ok-empty.ensures (search rules) s in
+          let y = look_name _ _ c.in-ok-name.ensures (search rules) a.1 in
+          let z = look_open_name _ _ c.in-ok-open-name.ensures (search rules) e.1 in
           λ i. Ok record { empty = x i; name = y i; open_name = z i };
       short = λ n. absurd (opened_short _ _ o.opened n c.in-ok-empty.ensures.0);
     }

@@ -5,14 +5,14 @@ use Rattle.grammar.specs.Grammar.{Grammar}
 use Rattle.draft.specs.Sealed.{sealed_model}
 use Rattle.reading.specs.Readings.{Long}
 use Rattle.clients.proofs.Calls.{opened_stands, opened_short, put_long, never}
-use Rattle.clients.proofs.comparisons_grammar.{Compares, nonassociative, left_and_right, put-name, put_is, put-name-2, put-is-2}
+use Rattle.clients.proofs.comparisons_grammar.{Compares, nonassociative, left_and_right, put_name, put_is, put_name_2, put_is_2}
 use Rattle.clients.proofs.second_is_refused.Goals as goal
 
 pub returns-in-err-put : goal.returns-in-err-put
 returns-in-err-put c =
     let o = c.open-reading.ensures in
     let never_here : (g : Grammar) → Compares g → sealed_model c.args.grammar.now ≡ g → Long c.args.chart.now → ⊥ = λ g d m l.
-    let a1 = put-name g d _ _ _ c.put.ensures (opened_stands _ _ _ g o.opened o.grammar m l) in
+    let a1 = put_name g d _ _ _ c.put.ensures (opened_stands _ _ _ g o.opened o.grammar m l) in
     never _ _ _ a1.0 c.in-err-put.was in
     record {
       nonassociative = λ m l. absurd (never_here _ nonassociative m l);
@@ -26,7 +26,7 @@ pub returns-in-err-put-2 : goal.returns-in-err-put-2
 returns-in-err-put-2 c =
     let o = c.open-reading.ensures in
     let never_here : (g : Grammar) → Compares g → sealed_model c.args.grammar.now ≡ g → Long c.args.chart.now → ⊥ = λ g d m l.
-    let a1 = put-name g d _ _ _ c.put.ensures (opened_stands _ _ _ g o.opened o.grammar m l) in
+    let a1 = put_name g d _ _ _ c.put.ensures (opened_stands _ _ _ g o.opened o.grammar m l) in
     let a2 = put_is g d _ _ _ c.put-2.ensures a1.1 in
     never _ _ _ a2.0 c.in-err-put-2.was in
     record {
@@ -39,9 +39,9 @@ pub returns-in-err-put-3 : goal.returns-in-err-put-3
 returns-in-err-put-3 c =
     let o = c.open-reading.ensures in
     let never_here : (g : Grammar) → Compares g → sealed_model c.args.grammar.now ≡ g → Long c.args.chart.now → ⊥ = λ g d m l.
-    let a1 = put-name g d _ _ _ c.put.ensures (opened_stands _ _ _ g o.opened o.grammar m l) in
+    let a1 = put_name g d _ _ _ c.put.ensures (opened_stands _ _ _ g o.opened o.grammar m l) in
     let a2 = put_is g d _ _ _ c.put-2.ensures a1.1 in
-    let a3 = put-name-2 g d _ _ _ c.put-3.ensures a2.1 in
+    let a3 = put_name_2 g d _ _ _ c.put-3.ensures a2.1 in
     never _ _ _ a3.0 c.in-err-put-3.was in
     record {
       nonassociative = λ m l. absurd (never_here _ nonassociative m l);
@@ -53,10 +53,10 @@ pub returns : goal.returns
 returns c =
     let o = c.open-reading.ensures in
     let refused : (g : Grammar) → Compares g → sealed_model c.args.grammar.now ≡ g → Long c.args.chart.now → c.put-4.result ≡ Err NothingBegins = λ g d m l.
-    let a1 = put-name g d _ _ _ c.put.ensures (opened_stands _ _ _ g o.opened o.grammar m l) in
+    let a1 = put_name g d _ _ _ c.put.ensures (opened_stands _ _ _ g o.opened o.grammar m l) in
     let a2 = put_is g d _ _ _ c.put-2.ensures a1.1 in
-    let a3 = put-name-2 g d _ _ _ c.put-3.ensures a2.1 in
-    put-is-2 g d _ _ _ c.put-4.ensures a3.1 in
+    let a3 = put_name_2 g d _ _ _ c.put-3.ensures a2.1 in
+    put_is_2 g d _ _ _ c.put-4.ensures a3.1 in
     record {
       nonassociative = λ m l. refused _ nonassociative m l;
       left_and_right = λ m l. refused _ left_and_right m l;

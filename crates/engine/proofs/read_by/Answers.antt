@@ -1,7 +1,7 @@
 use Rattle.std.proofs.Common.{arith}
 use Rattle.files.specs.Model.{model}
 use Rattle.engine.proofs.Bounds.{line_place, line_size}
-use Rattle.engine.proofs.Reading.{opens, ready, refused-line, put-line}
+use Rattle.engine.proofs.Reading.{opens, ready, refused_line, put_line}
 use Rattle.engine.proofs.read_by.Goals as goal
 
 pub write-listing-requires : goal.write-listing-requires
@@ -16,9 +16,9 @@ pack-requires c = line_place c.in-Err.ensures.put
 pub returns-in-Ok : goal.returns-in-Ok
 returns-in-Ok c =
     let o = opens _ c.seal-grammar.result c.open-reading.result (model c.args.book).draft (omega arith) c.open-reading.ensures.opened c.open-reading.ensures.grammar c.seal-grammar.ensures in
-    put-line (model c.args.book) c.args.line.now c.args.output.now c.open-reading.result c.put-line.new.reading o c.in-Ok.field-0 c.write-listing.result c.write-listing.new.output c.in-Ok.ensures.put c.write-listing.ensures
+    put_line (model c.args.book) c.args.line.now c.args.output.now c.open-reading.result c.put-line.new.reading o c.in-Ok.field-0 c.write-listing.result c.write-listing.new.output c.in-Ok.ensures.put c.write-listing.ensures
 
 pub returns-in-Err : goal.returns-in-Err
 returns-in-Err c =
     let o = opens _ c.seal-grammar.result c.open-reading.result (model c.args.book).draft (omega arith) c.open-reading.ensures.opened c.open-reading.ensures.grammar c.seal-grammar.ensures in
-    refused-line (model c.args.book) c.args.line.now c.args.output.now c.open-reading.result c.put-line.new.reading o c.in-Err.fault.refusal c.in-Err.fault.place c.pack.result c.number.result c.in-Err.ensures.put c.pack.ensures c.number.ensures
+    refused_line (model c.args.book) c.args.line.now c.args.output.now c.open-reading.result c.put-line.new.reading o c.in-Err.fault.refusal c.in-Err.fault.place c.pack.result c.number.result c.in-Err.ensures.put c.pack.ensures c.number.ensures

@@ -1,11 +1,11 @@
 use Rattle.std.proofs.Common.{◌≡◌, length, take, sym, ap, ◌∙◌, arith, length-set, take_all}
 use Rattle.engine.specs.Answers.{written}
-use Rattle.engine.proofs.Writing.{write-more}
+use Rattle.engine.proofs.Writing.{write_more}
 use Rattle.engine.proofs.write_records.Goals as goal
 
 pub loop-i-preserved : goal.loop-i-preserved
 loop-i-preserved c = (
-  write-more c.args.records.now c.args.output.now c.loop-i.i _ c.loop-i-test.true c.requires c.loop-i.output c.loop-i.invariant.0,
+  write_more c.args.records.now c.args.output.now c.loop-i.i _ c.loop-i-test.true c.requires c.loop-i.output c.loop-i.invariant.0,
   simp length-set c.loop-i.invariant.1,
 )
 

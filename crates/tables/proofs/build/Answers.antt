@@ -3,7 +3,7 @@ use Rattle.std.proofs.lemmas.List.{length-map}
 use Rattle.grammar.specs.declared.production.Production.{Production as Stored}
 use Rattle.grammar.specs.Model.{production, productions, rules}
 use Rattle.tables.proofs.Building.{means}
-use Rattle.tables.proofs.Counting.{known_at, last-low}
+use Rattle.tables.proofs.Counting.{known_at, last_low}
 use Rattle.tables.proofs.build.Goals as goal
 
 -- few stored productions
@@ -64,9 +64,9 @@ pub invariant-of-result : goal.invariant-of-result
 invariant-of-result c =
     let ps = c.args.productions.now in
     let low : (k : ℕ) → k < length ps → get_or c.firsts-first.result k 0 < 128 =
-    λ k l. omega (arith, c.firsts-first.ensures.each k (known_at ps k l), last-low (productions ps) k (known_at ps k l), c.requires.formed.small.1) in
+    λ k l. omega (arith, c.firsts-first.ensures.each k (known_at ps k l), last_low (productions ps) k (known_at ps k l), c.requires.formed.small.1) in
     let high : (k : ℕ) → k < length ps → get_or c.lasts-last.result k 0 < 128 =
-    λ k l. omega (arith, c.lasts-last.ensures.each k (known_at ps k l), last-low (productions ps) k (known_at ps k l), c.requires.formed.small.1) in (
+    λ k l. omega (arith, c.lasts-last.ensures.each k (known_at ps k l), last_low (productions ps) k (known_at ps k l), c.requires.formed.small.1) in (
       few ps c.requires.formed.small.0,
       (
         c.firsts-first.ensures.whole,

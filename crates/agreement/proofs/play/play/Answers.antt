@@ -1,7 +1,7 @@
 use Rattle.std.proofs.Common.{◌≡◌, ℕ, ◌<◌, ◌≤◌, length, take, drop, sym, refl, ◌∙◌, subst, arith, length-set}
 use borrow.Author.Rules.{scaled_Fits}
 use Rattle.agreement.specs.Histories.{lent, ListsInto, ScoresInto, Played, played_none}
-use Rattle.agreement.proofs.Playing.{played-next, later_kept, goes_on}
+use Rattle.agreement.proofs.Playing.{played_next, later_kept, goes_on}
 use Rattle.agreement.proofs.play.play.Goals as goal
 
 pub loop-i-init : goal.loop-i-init
@@ -22,7 +22,7 @@ loop-i-preserved g c =
     let size = held.2 in
     let l : c.loop-i.i < length c.args.calls.now = omega arith in
     let m : c.loop-i.i < length c.loop-i.answers = omega arith in (
-      played-next _ _ _ _ _ _ c.args.calls.now c.loop-i.answers c.loop-i.i _ c.make.result l m held.0 c.make.ensures,
+      played_next _ _ _ _ _ _ c.args.calls.now c.loop-i.answers c.loop-i.i _ c.make.result l m held.0 c.make.ensures,
       later_kept c.args.answers.now c.loop-i.answers c.loop-i.i c.make.result held.1,
       length-set c.loop-i.answers c.loop-i.i c.make.result ∙ size,
       omega arith,

@@ -1,8 +1,8 @@
 use Rattle.std.proofs.Common.{Err, refl, ap, ◌∙◌}
 use Rattle.std.proofs.lemmas.Result.{err_from_is_err_and}
 use Rattle.clients.proofs.Calls.{never}
-use Rattle.clients.proofs.Putting.{all-stand, all_taken, all_short, short-refused}
-use Rattle.clients.proofs.Answering.{lists_sentence, list-stands, list-only}
+use Rattle.clients.proofs.Putting.{all_stand, all_taken, all_short, short_refused}
+use Rattle.clients.proofs.Answering.{lists_sentence, list_stands, list_only}
 use Rattle.clients.proofs.lines.list_words.Goals as goal
 
 pub returns-in-err-put-words : goal.returns-in-err-put-words
@@ -14,7 +14,7 @@ returns-in-err-put-words c =
     record {
       listed = λ xs l z h room. absurd (never _ _ _ (all_taken _ _ _ _ o.opened o.grammar _ _ put l (lists_sentence _ _ xs h) z) was);
       only = λ n l h. absurd (never _ _ _ h p.1);
-      short = λ n. (p.1 ∙ ap Err (p.2 ∙ short-refused _ _ _ _ o.opened o.grammar _ _ _ put n was), refl);
+      short = λ n. (p.1 ∙ ap Err (p.2 ∙ short_refused _ _ _ _ o.opened o.grammar _ _ _ put n was), refl);
     }
 
 pub returns : goal.returns
@@ -23,7 +23,7 @@ returns c =
     let put = c.in-ok-put-words.ensures in
     let listed = c.list.ensures in
     record {
-      listed = λ xs l z h room. list-stands _ _ _ (all-stand _ _ _ _ o.opened o.grammar _ put l) _ _ _ listed xs h room;
-      only = λ n l h. list-only _ _ _ (all-stand _ _ _ _ o.opened o.grammar _ put l) _ _ _ listed n h;
+      listed = λ xs l z h room. list_stands _ _ _ (all_stand _ _ _ _ o.opened o.grammar _ put l) _ _ _ listed xs h room;
+      only = λ n l h. list_only _ _ _ (all_stand _ _ _ _ o.opened o.grammar _ put l) _ _ _ listed n h;
       short = λ n. listed.short (all_short _ _ _ _ o.opened o.grammar _ _ put n);
     }

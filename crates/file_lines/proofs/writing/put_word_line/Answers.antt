@@ -1,7 +1,7 @@
 use Rattle.std.proofs.Common.{[], ◌∷◌, refl}
 use Rattle.syntax.specs.Syntax.{spelling_text}
 use Rattle.syntax.specs.Model.{spelling}
-use Rattle.file_lines.proofs.Written.{first_stops, second-stops, all_three}
+use Rattle.file_lines.proofs.Written.{first_stops, second_stops, all_three}
 use Rattle.file_lines.proofs.writing.put_word_line.Goals as goal
 
 pub returns-in-err-declared : goal.returns-in-err-declared
@@ -9,7 +9,7 @@ returns-in-err-declared c = first_stops c.args.out.now c.args.at (119 ∷ 111 �
 
 pub returns-in-err-end : goal.returns-in-err-end
 returns-in-err-end c =
-    second-stops c.args.out.now c.args.at (119 ∷ 111 ∷ 114 ∷ 100 ∷ 32 ∷ []) (spelling_text (spelling c.args.word.now)) (10 ∷ []) _ refl _ _ c.from-residual-in-err-end.ensures.1 _ _ _
+    second_stops c.args.out.now c.args.at (119 ∷ 111 ∷ 114 ∷ 100 ∷ 32 ∷ []) (spelling_text (spelling c.args.word.now)) (10 ∷ []) _ refl _ _ c.from-residual-in-err-end.ensures.1 _ _ _
     c.in-ok-declared.ensures
     c.in-err-end.ensures
 

@@ -4,7 +4,7 @@ use Rattle.lines.specs.Bytes.{is_blank, in_run}
 use Rattle.lines.specs.Cuts.{mark, stray}
 use Rattle.lines.specs.Model.{word_of}
 use Rattle.lines.proofs.Runs.{none_first}
-use Rattle.lines.proofs.Nexts.{next-by, next_none, run-starts, run_end, one_byte, mark-starts, stray-starts}
+use Rattle.lines.proofs.Nexts.{next_by, next_none, run_starts, run_end, one_byte, mark_starts, stray_starts}
 use Rattle.lines.proofs.next.next_word.Goals as goal
 
 pub returns-then-start-line : goal.returns-then-start-line
@@ -22,7 +22,7 @@ returns-then-end-start c =
     let m = c.if-end-start.true in
     let ends = run_end line at end f m w c.run-word.ensures inside in
     record {
-      next = next-by line c.args.from at e w _ refl (rw ends (run-starts line at end f m w c.run-word.ensures));
+      next = next_by line c.args.from at e w _ refl (rw ends (run_starts line at end f m w c.run-word.ensures));
       within = (omega arith, omega arith, omega arith);
     }
 
@@ -37,7 +37,7 @@ returns-then-visible c =
     let none : prefix_len in_run (drop at line) ≡ 0 = omega arith in
     let one : length (take (at + 1 - at) (drop at line)) ≡ 1 = ap length (one_byte line at inside) in
     record {
-      next = next-by line c.args.from at e (mark (take (at + 1 - at) (drop at line))) _ refl (rw one (mark-starts line at inside (none_first in_run line at inside none) (sym c.if-visible.ensures)));
+      next = next_by line c.args.from at e (mark (take (at + 1 - at) (drop at line))) _ refl (rw one (mark_starts line at inside (none_first in_run line at inside none) (sym c.if-visible.ensures)));
       within = (omega arith, omega arith, omega arith);
     }
 
@@ -49,6 +49,6 @@ returns-else-visible c =
     let e = c.past-blanks-start.ensures.end inside in
     let one : length (take (at + 1 - at) (drop at line)) ≡ 1 = ap length (one_byte line at inside) in
     record {
-      next = next-by line c.args.from at e (stray (take (at + 1 - at) (drop at line))) _ refl (rw one (stray-starts line at inside (c.past-blanks-start.ensures.other inside) (sym c.if-visible.ensures)));
+      next = next_by line c.args.from at e (stray (take (at + 1 - at) (drop at line))) _ refl (rw one (stray_starts line at inside (c.past-blanks-start.ensures.other inside) (sym c.if-visible.ensures)));
       within = (omega arith, omega arith, omega arith);
     }

@@ -2,7 +2,7 @@ use Rattle.std.proofs.Common.{◌≡◌, length, ap, ◌∙◌, arith, take_all}
 use Rattle.std.proofs.lemmas.List.{length-map}
 use Rattle.grammar.specs.Grammar.{right_at, places}
 use Rattle.grammar.specs.Model.{production, productions}
-use Rattle.tables.proofs.Counting.{place-next, last-low, right_is, known_at}
+use Rattle.tables.proofs.Counting.{place_next, last_low, right_is, known_at}
 use Rattle.score.proofs.filling.count_places.Goals as goal
 
 -- the right side that was read
@@ -13,12 +13,12 @@ size c =
 pub overflow-add-count-in-loop-p : goal.overflow-add-count-in-loop-p
 overflow-add-count-in-loop-p c =
     let ps = c.args.productions.now in
-    omega (arith, last-low (productions ps) c.loop-p.p-index (known_at ps c.loop-p.p-index c.loop-p-test.true), c.requires, c.loop-p.invariant, size c)
+    omega (arith, last_low (productions ps) c.loop-p.p-index (known_at ps c.loop-p.p-index c.loop-p-test.true), c.requires, c.loop-p.invariant, size c)
 
 pub loop-p-preserved : goal.loop-p-preserved
 loop-p-preserved c =
     let ps = c.args.productions.now in
-    omega (arith, place-next (productions ps) c.loop-p.p-index (known_at ps c.loop-p.p-index c.loop-p-test.true), c.loop-p.invariant, size c)
+    omega (arith, place_next (productions ps) c.loop-p.p-index (known_at ps c.loop-p.p-index c.loop-p-test.true), c.loop-p.invariant, size c)
 
 pub returns : goal.returns
 returns c =

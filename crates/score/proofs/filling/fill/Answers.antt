@@ -5,15 +5,15 @@ use Rattle.scales.specs.Scales.{Scale}
 use Rattle.score.specs.declared.input.Input.{Input}
 use Rattle.score.specs.Inputs.{productions_in, words_in, entries_in, Fit, stage}
 use Rattle.score.specs.Filling.{held, Right, Blank, Fills, AllRight}
-use Rattle.score.proofs.Places.{index-low}
-use Rattle.score.proofs.Stages.{all-stages}
+use Rattle.score.proofs.Places.{index_low}
+use Rattle.score.proofs.Stages.{all_stages}
 use Rattle.score.proofs.filling.fill.Goals as goal
 
 module _ {S : Type 0} (s : Scale S) (x : Input) (fit : Fit x) where
   -- nothing is filled in at first
   begins : (W : ℕ → ℕ → ℕ → ℕ → S) (t u : List S) → Blank s (entries_in x) t u → Right s x W u (stage 0 0 0 0 0)
   begins W t u h = record {
-    part = λ p k i j inside. inr (h.none _ (index-low x p k i j inside));
+    part = λ p k i j inside. inr (h.none _ (index_low x p k i j inside));
     done = λ p k i j inside l less. absurd (omega arith);
   }
 
@@ -26,7 +26,7 @@ module _ {S : Type 0} (s : Scale S) (x : Input) (fit : Fit x) where
     later = λ k d lk. f.later k d lk ∙ h.later k d lk;
     right = λ start rs W given p k i j inside.
         let r = f.right start rs W given (begins W t u h) in
-        let a = all-stages s x fit start rs W given p k i j inside in
+        let a = all_stages s x fit start rs W given p k i j inside in
         ⊎_elim (λ (b : j < i).
         ⊎_elim (λ (e : held s x v p k i j ≡ W p k i j). e)
         (λ (e : held s x v p k i j ≡ s.none). e ∙ sym (given.weights.backwards p k i j b))

@@ -1,7 +1,7 @@
 use Rattle.std.proofs.Common.{◌+◌, ◌-◌, length, arith}
 use Rattle.score.specs.Inputs.{words_in, stage}
-use Rattle.score.proofs.Advances.{fills-none, fills-then, fills-on, fills-at}
-use Rattle.score.proofs.Stages.{skip-origins}
+use Rattle.score.proofs.Advances.{fills_none, fills_then, fills_on, fills_at}
+use Rattle.score.proofs.Stages.{skip_origins}
 use Rattle.score.proofs.filling.fill_length.Goals as goal
 
 pub fill-span-requires : goal.fill-span-requires
@@ -13,7 +13,7 @@ fill-span-requires g c = record {
 }
 
 pub loop-i-init : goal.loop-i-init
-loop-i-init g c = fills-none g.S.Semiring.scale c.args.input.now c.args.table.now (stage c.args.len 0 0 0 0)
+loop-i-init g c = fills_none g.S.Semiring.scale c.args.input.now c.args.table.now (stage c.args.len 0 0 0 0)
 
 pub loop-i-preserved : goal.loop-i-preserved
 loop-i-preserved g c =
@@ -21,9 +21,9 @@ loop-i-preserved g c =
     let x = c.args.input.now in
     let len = c.args.len in
     let i = c.loop-i.i in
-    fills-then s x c.args.table.now c.loop-i.table c.fill-span.new.table
+    fills_then s x c.args.table.now c.loop-i.table c.fill-span.new.table
     (stage len 0 0 0 0) (stage len i 0 0 0) (stage len (i + 1) 0 0 0) c.loop-i.invariant
-    (fills-at s x c.loop-i.table c.fill-span.new.table (stage (i + len - i) i 0 0 0) (stage (i + len - i) (i + 1) 0 0 0)
+    (fills_at s x c.loop-i.table c.fill-span.new.table (stage (i + len - i) i 0 0 0) (stage (i + len - i) (i + 1) 0 0 0)
     (stage len i 0 0 0) (stage len (i + 1) 0 0 0) (omega arith) (omega arith) c.fill-span.ensures)
 
 pub returns : goal.returns
@@ -32,7 +32,7 @@ returns g c =
     let x = c.args.input.now in
     let len = c.args.len in
     let n = length (words_in x) in
-    fills-on s x c.args.table.now c.loop-i.table (stage len 0 0 0 0) (stage len (n - len + 1) 0 0 0) (stage (len + 1) 0 0 0 0)
-    (fills-at s x c.args.table.now c.loop-i.table (stage len 0 0 0 0) (stage len c.loop-i.i 0 0 0)
+    fills_on s x c.args.table.now c.loop-i.table (stage len 0 0 0 0) (stage len (n - len + 1) 0 0 0) (stage (len + 1) 0 0 0 0)
+    (fills_at s x c.args.table.now c.loop-i.table (stage len 0 0 0 0) (stage len c.loop-i.i 0 0 0)
     (stage len 0 0 0 0) (stage len (n - len + 1) 0 0 0) (omega arith) (omega (arith, c.loop-i-test.false, c.loop-i.auto.i-end)) c.loop-i.invariant)
-    (λ start rs W given q l m m' h lmn less. skip-origins s x c.requires.fit start rs W given len c.requires.inside q l m m' h lmn less)
+    (λ start rs W given q l m m' h lmn less. skip_origins s x c.requires.fit start rs W given len c.requires.inside q l m m' h lmn less)

@@ -3,8 +3,8 @@ use Rattle.std.proofs.lemmas.List.{length-map}
 use Rattle.grammar.specs.Model.{production}
 use Rattle.tables.proofs.Counting.{known_at}
 use Rattle.score.specs.Inputs.{productions_in, stage}
-use Rattle.score.proofs.Advances.{fills-none, fills-then, fills-on, fills-at}
-use Rattle.score.proofs.Stages.{skip-productions}
+use Rattle.score.proofs.Advances.{fills_none, fills_then, fills_on, fills_at}
+use Rattle.score.proofs.Stages.{skip_productions}
 use Rattle.score.proofs.filling.fill_level.Goals as goal
 
 pub fill-row-requires : goal.fill-row-requires
@@ -20,13 +20,13 @@ pub loop-p-init : goal.loop-p-init
 loop-p-init g c =
     let j = c.args.j in
     let i = c.args.i in
-    fills-none g.S.Semiring.scale c.args.input.now c.args.table.now (stage (j - i) i c.args.of 0 0)
+    fills_none g.S.Semiring.scale c.args.input.now c.args.table.now (stage (j - i) i c.args.of 0 0)
 
 pub loop-p-preserved : goal.loop-p-preserved
 loop-p-preserved g c =
     let j = c.args.j in
     let i = c.args.i in
-    fills-then g.S.Semiring.scale c.args.input.now c.args.table.now c.loop-p.table c.fill-row.new.table
+    fills_then g.S.Semiring.scale c.args.input.now c.args.table.now c.loop-p.table c.fill-row.new.table
     (stage (j - i) i c.args.of 0 0) (stage (j - i) i c.args.of c.loop-p.p 0) (stage (j - i) i c.args.of (c.loop-p.p + 1) 0)
     c.loop-p.invariant c.fill-row.ensures
 
@@ -38,8 +38,8 @@ returns g c =
     let i = c.args.i in
     let of = c.args.of in
     let count = length (productions_in x) in
-    fills-on s x c.args.table.now c.loop-p.table (stage (j - i) i of 0 0) (stage (j - i) i of count 0) (stage (j - i) i (of + 1) 0 0)
-    (fills-at s x c.args.table.now c.loop-p.table (stage (j - i) i of 0 0) (stage (j - i) i of c.loop-p.p 0)
+    fills_on s x c.args.table.now c.loop-p.table (stage (j - i) i of 0 0) (stage (j - i) i of count 0) (stage (j - i) i (of + 1) 0 0)
+    (fills_at s x c.args.table.now c.loop-p.table (stage (j - i) i of 0 0) (stage (j - i) i of c.loop-p.p 0)
     (stage (j - i) i of 0 0) (stage (j - i) i of count 0) (omega arith)
     (omega (arith, length-map x.productions.now production, c.loop-p-test.false, c.loop-p.auto.p-end)) c.loop-p.invariant)
-    (λ start rs W given q l m n h lmn less. skip-productions s x c.requires.fit start rs W given (j - i) i of q l m n h less)
+    (λ start rs W given q l m n h lmn less. skip_productions s x c.requires.fit start rs W given (j - i) i of q l m n h less)

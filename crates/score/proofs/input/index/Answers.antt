@@ -1,5 +1,5 @@
 use Rattle.std.proofs.Common.{◌+◌, ◌*◌, length, ap, arith}
-use Rattle.score.proofs.Places.{first-low, read_low}
+use Rattle.score.proofs.Places.{first_low, read_low}
 use Rattle.score.proofs.input.index.Goals as goal
 
 pub returns : goal.returns
@@ -9,7 +9,7 @@ returns c =
 
 pub overflow-add-place : goal.overflow-add-place
 overflow-add-place c =
-    omega (arith, first-low c.args.input.now c.requires.fit c.args.p c.args.k c.requires.inside.0 c.requires.inside.1)
+    omega (arith, first_low c.args.input.now c.requires.fit c.args.p c.args.k c.requires.inside.0 c.requires.inside.1)
 
 pub overflow-mul-result-2 : goal.overflow-mul-result-2
 overflow-mul-result-2 c =

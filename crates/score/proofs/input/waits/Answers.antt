@@ -3,7 +3,7 @@ use Rattle.std.proofs.lemmas.Bool.{eqb-true, eqb-false}
 use Rattle.bitset.specs.Bits.{bit}
 use Rattle.bitset.proofs.Digits.{and_one}
 use Rattle.tables.specs.Meaning.{Waits}
-use Rattle.score.proofs.Places.{first-low}
+use Rattle.score.proofs.Places.{first_low}
 use Rattle.score.proofs.input.waits.Goals as goal
 
 pub returns : goal.returns
@@ -21,11 +21,11 @@ returns c =
 
 pub overflow-add-place : goal.overflow-add-place
 overflow-add-place c =
-    omega (arith, first-low c.args.input.now c.requires.fit c.args.p c.args.k c.requires.parent c.requires.position)
+    omega (arith, first_low c.args.input.now c.requires.fit c.args.p c.args.k c.requires.parent c.requires.position)
 
 pub bounds-input-q : goal.bounds-input-q
 bounds-input-q c =
-    let a = first-low c.args.input.now c.requires.fit c.args.p c.args.k c.requires.parent c.requires.position in
+    let a = first_low c.args.input.now c.requires.fit c.args.p c.args.k c.requires.parent c.requires.position in
     omega (arith, c.requires.child, c.requires.fit.few)
 
 pub bounds-input-p : goal.bounds-input-p
@@ -36,12 +36,12 @@ overflow-mul-result c = omega (arith, c.requires.child, c.requires.fit.few)
 
 pub overflow-add-result : goal.overflow-add-result
 overflow-add-result c =
-    let a = first-low c.args.input.now c.requires.fit c.args.p c.args.k c.requires.parent c.requires.position in
+    let a = first_low c.args.input.now c.requires.fit c.args.p c.args.k c.requires.parent c.requires.position in
     omega (arith, c.requires.child, c.requires.fit.few)
 
 pub offset-bounds-input-q : goal.offset-bounds-input-q
 offset-bounds-input-q c =
-    let a = first-low c.args.input.now c.requires.fit c.args.p c.args.k c.requires.parent c.requires.position in
+    let a = first_low c.args.input.now c.requires.fit c.args.p c.args.k c.requires.parent c.requires.position in
     omega (arith, c.requires.child, c.requires.fit.few)
 
 pub overflow-shr-result : goal.overflow-shr-result

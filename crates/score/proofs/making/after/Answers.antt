@@ -1,7 +1,7 @@
 use Rattle.std.proofs.Common.{length, get_or, sym, ap, arith}
 use Rattle.tables.proofs.Counting.{stored_at}
 use Rattle.score.proofs.Places.{read_right}
-use Rattle.score.proofs.Splitting.{splits-right}
+use Rattle.score.proofs.Splitting.{splits_right}
 use Rattle.score.proofs.making.after.Goals as goal
 
 pub bounds-input-p : goal.bounds-input-p
@@ -26,6 +26,6 @@ after-kind-requires g c =
 pub returns-then-symbol-lt16 : goal.returns-then-symbol-lt16
 returns-then-symbol-lt16 g c start rs W given right =
     let is = read_right c.args.input.now.productions.now c.args.p _ c.requires.inside.0 _ c.right.ensures in
-    splits-right g.S.Semiring.scale g.met.S.Semiring.laws c.args.input.now c.requires.fit start rs W given c.args.p c.args.k c.args.i
+    splits_right g.S.Semiring.scale g.met.S.Semiring.laws c.args.input.now c.requires.fit start rs W given c.args.p c.args.k c.args.i
     c.args.j c.requires.inside.0 c.requires.position c.requires.span c.requires.inside.3 c.args.table.now right
     _ (c.requires.position, ap (λ xs. get_or xs c.args.k 0) (sym is)) c.if-symbol-lt16.true c.splits.result c.splits.ensures

@@ -3,11 +3,11 @@ use Rattle.std.proofs.lemmas.List.{length-map}
 use Rattle.grammar.specs.Model.{production}
 use Rattle.tables.proofs.Counting.{known_at}
 use Rattle.score.specs.Inputs.{productions_in}
-use Rattle.score.proofs.Adding.{sum-none, sum_more, sum_to}
+use Rattle.score.proofs.Adding.{sum_none, sum_more, sum_to}
 use Rattle.score.proofs.sums.roots.Goals as goal
 
 pub loop-p-init : goal.loop-p-init
-loop-p-init g c f t = sum-none g.S.Semiring.scale f c.none-sum.result c.none-sum.ensures
+loop-p-init g c f t = sum_none g.S.Semiring.scale f c.none-sum.result c.none-sum.ensures
 
 pub root-requires : goal.root-requires
 root-requires g c = record {

@@ -3,11 +3,11 @@ use Rattle.std.proofs.lemmas.List.{length-map}
 use Rattle.grammar.specs.Model.{production}
 use Rattle.tables.proofs.Counting.{known_at}
 use Rattle.score.specs.Inputs.{productions_in}
-use Rattle.score.proofs.Adding.{sum-none, sum_more, sum_to}
+use Rattle.score.proofs.Adding.{sum_none, sum_more, sum_to}
 use Rattle.score.proofs.sums.split.Goals as goal
 
 pub loop-q-init : goal.loop-q-init
-loop-q-init g c f t = sum-none g.S.Semiring.scale f c.none-sum.result c.none-sum.ensures
+loop-q-init g c f t = sum_none g.S.Semiring.scale f c.none-sum.result c.none-sum.ensures
 
 pub term-requires : goal.term-requires
 term-requires g c = record {

@@ -1,13 +1,13 @@
 use Rattle.std.proofs.Common.{suc, ◌+◌, ◌-◌, length, arith}
 use Rattle.score_theory.specs.Weights.{sum_below}
 use Rattle.score.specs.Inputs.{productions_in}
-use Rattle.score.proofs.Adding.{sum-none, sum_more, sum_to}
+use Rattle.score.proofs.Adding.{sum_none, sum_more, sum_to}
 use Rattle.score.proofs.sums.splits.Goals as goal
 
 pub loop-d-init : goal.loop-d-init
 loop-d-init g c f t =
     let s = g.S.Semiring.scale in
-    sum-none s (λ e. sum_below s (length (productions_in c.args.input.now)) (λ q. f (c.args.i + e) q)) c.none-sum.result c.none-sum.ensures
+    sum_none s (λ e. sum_below s (length (productions_in c.args.input.now)) (λ q. f (c.args.i + e) q)) c.none-sum.result c.none-sum.ensures
 
 pub loop-d-preserved : goal.loop-d-preserved
 loop-d-preserved g c f t =

@@ -1,7 +1,7 @@
 use Rattle.std.proofs.Common.{length, ap, ◌∙◌, arith}
 use Rattle.tables.proofs.Counting.{stored_at}
 use Rattle.score.specs.Filling.{held}
-use Rattle.score.proofs.Places.{read_right, read-price}
+use Rattle.score.proofs.Places.{read_right, read_price}
 use Rattle.score.proofs.sums.whole.Goals as goal
 
 pub bounds-input-q : goal.bounds-input-q
@@ -19,7 +19,7 @@ returns g c =
     let ps = x.productions.now in
     let q = c.args.q in
     let size = ap length (read_right ps q _ c.requires.inside _ c.right.ensures) in
-    let price = read-price ps q _ c.requires.inside _ c.price.ensures in
+    let price = read_price ps q _ c.requires.inside _ c.price.ensures in
     let first = c.value-price.ensures ∙ ap s.value price in
     let second = c.entry-ways.ensures ∙ ap (λ k. held s x c.args.table.now q k c.args.i c.args.j) size in
     cc

@@ -1,7 +1,7 @@
 use Rattle.std.proofs.Common.{◌≡◌, ◌+◌, ◌<◌, ◌≤◌, List, [], ◌∷◌, ◌++◌, length, sym, refl, ◌∙◌, arith, rules}
 use Rattle.syntax.specs.Model.{symbol}
 use Rattle.file_lines.specs.Reading.{SemicolonAt}
-use Rattle.file_lines.proofs.RightSides.{Progress, semicolon_part, no_semicolon_part, part-is, no_part, progress-more, behind, room-behind, price-is, whole}
+use Rattle.file_lines.proofs.RightSides.{Progress, semicolon_part, no_semicolon_part, part_is, no_part, progress_more, behind, room_behind, price_is, whole}
 use Rattle.spellings.proofs.reading.read_right.Goals as goal
 
 pub returns-then-end-text : goal.returns-then-end-text
@@ -18,7 +18,7 @@ returns-in-err-symbol c =
     let l : c.part-end-end.result < length text = let w = e.within in omega arith in
     rw c.from-residual.ensures
     (λ ss price v _ t.
-    let p = part-is text c.loop-end.at i.0 i.1 c.part-end-end.result e (no_semicolon_part text c.loop-end.at (c.loop-end-test.ensures.no refl)) l ss price v t in
+    let p = part_is text c.loop-end.at i.0 i.1 c.part-end-end.result e (no_semicolon_part text c.loop-end.at (c.loop-end-test.ensures.no refl)) l ss price v t in
     c.in-err-symbol.ensures p.0 p.1 p.2)
 
 pub loop-end-preserved : goal.loop-end-preserved
@@ -29,7 +29,7 @@ loop-end-preserved c =
     let l : c.part-end-end.result < length text = let w = e.within in omega arith in
     let s = c.in-ok-symbol.ensures in (
       i.0 ++ symbol c.in-ok-symbol.symbol ∷ [],
-      progress-more text c.loop-end.at i.0 i.1 c.part-end-end.result e (no_semicolon_part text c.loop-end.at (c.loop-end-test.ensures.no refl)) l (symbol c.in-ok-symbol.symbol) s.0 s.1,
+      progress_more text c.loop-end.at i.0 i.1 c.part-end-end.result e (no_semicolon_part text c.loop-end.at (c.loop-end-test.ensures.no refl)) l (symbol c.in-ok-symbol.symbol) s.0 s.1,
       c.push.ensures i.0 i.2,
     )
 
@@ -38,12 +38,12 @@ found : (c : goal.After-loop-end) → SemicolonAt c.args.text.now c.loop-end.at
 found c = semicolon_part c.args.text.now c.loop-end.at (c.loop-end-test.ensures.yes refl)
 
 pub slice-bounds-read-number-count : goal.slice-bounds-read-number-count
-slice-bounds-read-number-count c = let i = c.loop-end.invariant in room-behind c.args.text.now c.loop-end.at i.0 i.1 (found c)
+slice-bounds-read-number-count c = let i = c.loop-end.invariant in room_behind c.args.text.now c.loop-end.at i.0 i.1 (found c)
 
 pub slice-bounds-read-number-start : goal.slice-bounds-read-number-start
 slice-bounds-read-number-start c =
     let i = c.loop-end.invariant in
-    let h : c.loop-end.at + 2 ≤ length c.args.text.now = room-behind c.args.text.now c.loop-end.at i.0 i.1 (found c) in search rules
+    let h : c.loop-end.at + 2 ≤ length c.args.text.now = room_behind c.args.text.now c.loop-end.at i.0 i.1 (found c) in search rules
 
 pub returns-in-err-price : goal.returns-in-err-price
 returns-in-err-price c =
@@ -51,7 +51,7 @@ returns-in-err-price c =
     let text = c.args.text.now in
     let q = semicolon_part text c.loop-end.at (c.loop-end-test.ensures.yes refl) in
     rw c.from-residual-in-err-price.ensures
-    (λ ss price v l t. c.in-err-price.ensures price l (behind text c.loop-end.at i.0 i.1 q ∙ price-is text c.loop-end.at i.0 i.1 q ss price v t))
+    (λ ss price v l t. c.in-err-price.ensures price l (behind text c.loop-end.at i.0 i.1 q ∙ price_is text c.loop-end.at i.0 i.1 q ss price v t))
 
 pub returns : goal.returns
 returns c =

@@ -4,7 +4,7 @@ use Rattle.std.proofs.lemmas.Bool.{true≢false, false≢true}
 use Rattle.grammar.specs.Grammar.{Rule, no_rule}
 use Rattle.grammar.specs.Model.{rule, rules}
 use Rattle.tables.specs.Conflicts.{Relates}
-use Rattle.tables.proofs.Relating.{beside_at, at-beside}
+use Rattle.tables.proofs.Relating.{beside_at, at_beside}
 use Rattle.tables.proofs.conflicts.beside.Goals as goal
 
 pub returns-then-relates : goal.returns-then-relates
@@ -34,6 +34,6 @@ returns c =
     record {
       yes = λ t. absurd (false≢true t);
       no = λ _ h.
-          let found = at-beside (rules rs) c.args.p c.args.relation c.args.q h in
+          let found = at_beside (rules rs) c.args.p c.args.relation c.args.q h in
           c.loop-rule.invariant found.0 (omega (arith, found.1, length-map rs rule)) found.2;
     }

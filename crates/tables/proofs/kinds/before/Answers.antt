@@ -6,7 +6,7 @@ use Rattle.derivations.specs.Steps.{Gathers}
 use Rattle.derivations.proofs.Gathering.{gathers_more}
 use Rattle.tables.specs.Entries.{Row, KindNext}
 use Rattle.tables.specs.Sets.{Marked}
-use Rattle.tables.proofs.Counting.{right_is, known_at, last-low}
+use Rattle.tables.proofs.Counting.{right_is, known_at, last_low}
 use Rattle.tables.proofs.Tabulating.{Nowhere, gathers_none, tabulates}
 use Rattle.tables.proofs.kinds.before.Goals as goal
 
@@ -21,7 +21,7 @@ mark-kinds-requires c =
     let right = right_is ps p c.index-productions-p.result l c.index-productions-p.is _ c.right.ensures in
     record {
       symbols = subst (λ (xs : List ℕ). (k : ℕ) → k < length xs → get_or xs k 0 < 48) (sym right) (λ k. c.requires.symbols p k (known_at ps p l));
-      small = omega (arith, ap length right, c.requires.begins p (known_at ps p l), last-low (productions ps) p (known_at ps p l), c.requires.small);
+      small = omega (arith, ap length right, c.requires.begins p (known_at ps p l), last_low (productions ps) p (known_at ps p l), c.requires.small);
       room = omega (arith, c.loop-p.invariant.0);
     }
 

@@ -3,7 +3,7 @@ use Rattle.grammar.specs.Grammar.{right_at}
 use Rattle.grammar.specs.Model.{productions}
 use Rattle.bitset.specs.Bits.{Has}
 use Rattle.tables.specs.Filling.{Fillable}
-use Rattle.tables.proofs.Counting.{right_is, known_at, stored_at, last-low}
+use Rattle.tables.proofs.Counting.{right_is, known_at, stored_at, last_low}
 use Rattle.tables.proofs.Least.{passed_more}
 use Rattle.tables.proofs.liveness.pass.Goals as goal
 
@@ -15,7 +15,7 @@ with-filled-grown-requires c =
     let right = right_is ps p c.index-productions-p.result l c.index-productions-p.is _ c.right.ensures in (
       c.requires.long.1,
       (
-        omega (arith, ap length right, c.requires.begins p (known_at ps p l), last-low (productions ps) p (known_at ps p l), c.requires.small),
+        omega (arith, ap length right, c.requires.begins p (known_at ps p l), last_low (productions ps) p (known_at ps p l), c.requires.small),
         omega (arith, c.requires.few, l),
       ),
     )

@@ -4,13 +4,13 @@ use Rattle.std.proofs.lemmas.Bool.{cases_eq}
 use Rattle.grammar.specs.Grammar.{right_at}
 use Rattle.grammar.specs.Model.{productions}
 use Rattle.tables.specs.Places.{first_place}
-use Rattle.tables.proofs.Counting.{set_more, place-next, last-low, right_is, known_at, stored_at}
+use Rattle.tables.proofs.Counting.{set_more, place_next, last_low, right_is, known_at, stored_at}
 use Rattle.tables.proofs.placing.firsts.Goals as goal
 
 pub overflow-cast-first : goal.overflow-cast-first
 overflow-cast-first c =
     let ps = c.args.productions.now in
-    omega (arith, last-low (productions ps) c.loop-i.i (known_at ps c.loop-i.i c.loop-i-test.true), c.requires.small, c.loop-i.invariant.1)
+    omega (arith, last_low (productions ps) c.loop-i.i (known_at ps c.loop-i.i c.loop-i-test.true), c.requires.small, c.loop-i.invariant.1)
 
 -- the right side that was read
 size : (c : goal.After-right) → length c.right.result.now ≡ length (right_at (productions c.args.productions.now) c.loop-i.i)
@@ -20,7 +20,7 @@ size c =
 pub overflow-add-place-in-loop-i : goal.overflow-add-place-in-loop-i
 overflow-add-place-in-loop-i c =
     let ps = c.args.productions.now in
-    omega (arith, last-low (productions ps) c.loop-i.i (known_at ps c.loop-i.i c.loop-i-test.true), c.requires.small, c.loop-i.invariant.1, size c)
+    omega (arith, last_low (productions ps) c.loop-i.i (known_at ps c.loop-i.i c.loop-i-test.true), c.requires.small, c.loop-i.invariant.1, size c)
 
 pub loop-i-preserved : goal.loop-i-preserved
 loop-i-preserved c =
@@ -29,7 +29,7 @@ loop-i-preserved c =
     let xs = c.loop-i.first in
     let v = c.loop-i.place in
     let inv = c.loop-i.invariant in
-    let n = place-next (productions ps) i (known_at ps i c.loop-i-test.true) in (
+    let n = place_next (productions ps) i (known_at ps i c.loop-i-test.true) in (
       length-set xs i v ∙ inv.0,
       omega (arith, n, inv.1, size c),
       ⊎_elim (λ (e : i ≡ 0). ap (λ k. get_or (set xs k v) 0 0) e ∙ get_or-set_same xs 0 v 0 (omega (arith, inv.0)) ∙ inv.1 ∙ ap (first_place (productions ps)) e)

@@ -2,7 +2,7 @@ use Rattle.std.proofs.Common.{◌≡◌, ◌+◌, length, get_or, ap, ◌∙◌,
 use Rattle.std.proofs.lemmas.List.{length-set}
 use Rattle.grammar.specs.Model.{productions}
 use Rattle.tables.specs.Places.{last_place}
-use Rattle.tables.proofs.Counting.{set_more, last-low, right_is, known_at, stored_at}
+use Rattle.tables.proofs.Counting.{set_more, last_low, right_is, known_at, stored_at}
 use Rattle.tables.proofs.placing.lasts.Goals as goal
 
 -- the last place of the production that was read
@@ -17,7 +17,7 @@ place c =
 pub overflow-add-last : goal.overflow-add-last
 overflow-add-last c =
     let ps = c.args.productions.now in
-    omega (arith, place c, last-low (productions ps) c.loop-i.i (known_at ps c.loop-i.i c.loop-i-test.true), c.requires.small)
+    omega (arith, place c, last_low (productions ps) c.loop-i.i (known_at ps c.loop-i.i c.loop-i-test.true), c.requires.small)
 
 pub loop-i-preserved : goal.loop-i-preserved
 loop-i-preserved c =

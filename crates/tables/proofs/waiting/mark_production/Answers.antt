@@ -6,7 +6,7 @@ use Rattle.derivations.specs.Steps.{Gathers}
 use Rattle.derivations.proofs.Gathering.{gathers_more}
 use Rattle.tables.specs.Entries.{Entry, WaitsFor}
 use Rattle.tables.specs.Sets.{Marked}
-use Rattle.tables.proofs.Counting.{right_is, known_at, last-low}
+use Rattle.tables.proofs.Counting.{right_is, known_at, last_low}
 use Rattle.tables.proofs.Tabulating.{adds_same}
 use Rattle.tables.proofs.waiting.mark_production.Goals as goal
 
@@ -28,14 +28,14 @@ pub overflow-add-first : goal.overflow-add-first
 overflow-add-first c =
     let ps = c.args.productions.now in
     let size = ap length (right_is ps c.args.p c.index-productions-p.result c.requires.parent c.index-productions-p.is _ c.right-k-end.ensures) in
-    omega (arith, last-low (productions ps) c.args.p (known_at ps c.args.p c.requires.parent), c.requires.small, c.requires.place, size, c.loop-k-test.true)
+    omega (arith, last_low (productions ps) c.args.p (known_at ps c.args.p c.requires.parent), c.requires.small, c.requires.place, size, c.loop-k-test.true)
 
 pub mark-each-requires : goal.mark-each-requires
 mark-each-requires c =
     let ps = c.args.productions.now in
     let size = ap length (right_is ps c.args.p c.index-productions-p.result c.requires.parent c.index-productions-p.is _ c.right-k-end.ensures) in (
       omega (arith, c.loop-k.auto.waits, c.requires.room),
-      omega (arith, last-low (productions ps) c.args.p (known_at ps c.args.p c.requires.parent), c.requires.small, c.requires.place, size, c.loop-k-test.true),
+      omega (arith, last_low (productions ps) c.args.p (known_at ps c.args.p c.requires.parent), c.requires.small, c.requires.place, size, c.loop-k-test.true),
     )
 
 pub loop-k-preserved : goal.loop-k-preserved

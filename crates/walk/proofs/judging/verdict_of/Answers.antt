@@ -1,15 +1,15 @@
 use Rattle.spellings.specs.Model.{words}
-use Rattle.walk.proofs.Putting.{judged-put, judged-refused}
+use Rattle.walk.proofs.Putting.{judged_put, judged_refused}
 use Rattle.walk.proofs.judging.verdict_of.Goals as goal
 
 pub returns-in-Ok : goal.returns-in-Ok
 returns-in-Ok c =
     let ready = c.open-reading.ensures in
-    judged-put c.args.grammar.now (words c.args.spellings.now) c.args.chart.now c.args.line.now _ _
+    judged_put c.args.grammar.now (words c.args.spellings.now) c.args.chart.now c.args.line.now _ _
     (record { opened = ready.opened; grammar = ready.grammar }) _ _ c.in-Ok.ensures.put c.judge-words.ensures
 
 pub returns-in-Err : goal.returns-in-Err
 returns-in-Err c =
     let ready = c.open-reading.ensures in
-    judged-refused c.args.grammar.now (words c.args.spellings.now) c.args.chart.now c.args.line.now _ _
+    judged_refused c.args.grammar.now (words c.args.spellings.now) c.args.chart.now c.args.line.now _ _
     (record { opened = ready.opened; grammar = ready.grammar }) _ _ c.in-Err.ensures.put c.number.ensures

@@ -3,7 +3,7 @@ use mathlib.Core.Logic.Iff
 use Rattle.grammar.specs.Order.{Closure}
 use Rattle.bitset.specs.Relations.{Holds}
 use Rattle.bitset.proofs.Joining.{in_below}
-use Rattle.bitset.proofs.Warshall.{Via, via_more, via-is-closure}
+use Rattle.bitset.proofs.Warshall.{Via, via_more, via_is_closure}
 use Rattle.bitset.proofs.rows.Rows.close.Goals as goal
 
 pub loop-m-preserved : goal.loop-m-preserved
@@ -15,5 +15,5 @@ pub returns : goal.returns
 returns c p q =
     let R = Holds c.args.self.now in
     let all : c.loop-m.m ≡ 32 = omega arith in
-    let closed = via-is-closure R 32 (in_below 32 c.args.self.now.rows c.args.self.now.narrow) p q in
+    let closed = via_is_closure R 32 (in_below 32 c.args.self.now.rows c.args.self.now.narrow) p q in
     Iff.trans (subst (λ m. Holds c.loop-m.self p q ↔ Via R m p q) all (c.loop-m.invariant p q)) closed

@@ -7,17 +7,17 @@ use Rattle.grammar.specs.Sound.{WellFormed, Acyclic}
 use Rattle.draft.specs.Calls.{OutOfRange, TooLong, Loops, leads_to_itself}
 use Rattle.draft.specs.Model.{model}
 use Rattle.draft.specs.Stored.{grammar}
-use Rattle.draft.proofs.Accepting.{well_formed, free-place, longer, grown, lefts}
-use Rattle.draft.proofs.Causes.{production-none}
+use Rattle.draft.proofs.Accepting.{well_formed, free_place, longer, grown, lefts}
+use Rattle.draft.proofs.Causes.{production_none}
 use Rattle.draft.proofs.Growing.{production_kept}
 use Rattle.draft.proofs.Tables.{short, counted}
 use Rattle.draft.proofs.draft.Draft.accept_production.Goals as goal
 
 pub bounds-productions-at : goal.bounds-productions-at
-bounds-productions-at c = free-place c.args.self.now c.args.p c.requires.room
+bounds-productions-at c = free_place c.args.self.now c.args.p c.requires.room
 
 pub slice-bounds-leads-to-itself-end : goal.slice-bounds-leads-to-itself-end
-slice-bounds-leads-to-itself-end c = let h : c.args.self.now.count < 32 = free-place c.args.self.now c.args.p c.requires.room in search rules
+slice-bounds-leads-to-itself-end c = let h : c.args.self.now.count < 32 = free_place c.args.self.now c.args.p c.requires.room in search rules
 
 pub leads-to-itself-requires : goal.leads-to-itself-requires
 leads-to-itself-requires c = lefts c.args.self.now c.args.p c.requires.room c.requires.range
@@ -28,7 +28,7 @@ returns-then-leads-to-itself c =
     let p = c.args.p in
     let h = c.if-leads-to-itself.ensures.yes refl in (
       leads_to_itself (h.0, subst (λ (ps : List Production). LeadsOn ps h.0 h.0) (longer d p c.requires.room) h.1),
-      production-none (model d) (production p) 5
+      production_none (model d) (production p) 5
           (record { range = λ _. c.requires.range; long = λ _. short p; room = λ _. c.requires.room; repeats = λ _. c.requires.fresh; loops = λ l. absurd (omega arith) }),
       refl,
     )
@@ -48,7 +48,7 @@ kept c =
 pub invariant-of-self : goal.invariant-of-self
 invariant-of-self c =
     let d = c.args.self.now in
-    let l = free-place d c.args.p c.requires.room in
+    let l = free_place d c.args.p c.requires.room in
     let w = kept c in (
       simp length-set d.room,
       (
@@ -70,10 +70,10 @@ pub returns : goal.returns
 returns c =
     let d = c.args.self.now in
     let p = c.args.p in
-    let l = free-place d p c.requires.room in
+    let l = free_place d p c.requires.room in
     let e = grown d p c.requires.room in
     let none : ¬ Loops (model d) (production p) = λ h. subst Acyclic (longer d p c.requires.room) (c.if-leads-to-itself.ensures.no refl) h.0 h.1 in (
-      λ n. production-none (model d) (production p) (suc n)
+      λ n. production_none (model d) (production p) (suc n)
           (record { range = λ _. c.requires.range; long = λ _. short p; room = λ _. c.requires.room; repeats = λ _. c.requires.fresh; loops = λ _. none }) n (omega arith),
       (counted production (set d.productions d.count p) (d.count + 1) (omega (arith, length-set d.productions d.count p)), e),
     )

@@ -6,18 +6,18 @@ use Rattle.grammar.specs.Sound.{WellFormed, Ordered}
 use Rattle.draft.specs.Calls.{AboveItself, above_itself, NamesNone}
 use Rattle.draft.specs.Model.{model}
 use Rattle.draft.specs.Stored.{grammar}
-use Rattle.draft.proofs.Accepting.{well_formed, free-rule, longer-rules, grown-rules, numbers-kept, between}
-use Rattle.draft.proofs.Causes.{rule-none}
+use Rattle.draft.proofs.Accepting.{well_formed, free_rule, longer_rules, grown_rules, numbers_kept, between}
+use Rattle.draft.proofs.Causes.{rule_none}
 use Rattle.draft.proofs.Growing.{rule_kept}
 use Rattle.draft.proofs.Tables.{counted}
 use Rattle.draft.proofs.draft.Draft.accept_rule.Goals as goal
 
 pub bounds-rules-at : goal.bounds-rules-at
-bounds-rules-at c = free-rule c.args.self.now c.args.rule c.requires.upper c.requires.lower c.requires.room
+bounds-rules-at c = free_rule c.args.self.now c.args.rule c.requires.upper c.requires.lower c.requires.room
 
 pub slice-bounds-above-itself-end : goal.slice-bounds-above-itself-end
 slice-bounds-above-itself-end c =
-    let h : c.args.self.now.ruled < 64 = free-rule c.args.self.now c.args.rule c.requires.upper c.requires.lower c.requires.room in search rules
+    let h : c.args.self.now.ruled < 64 = free_rule c.args.self.now c.args.rule c.requires.upper c.requires.lower c.requires.room in search rules
 
 pub above-itself-requires : goal.above-itself-requires
 above-itself-requires c = between c.args.self.now c.args.rule c.requires.upper c.requires.lower c.requires.room
@@ -27,8 +27,8 @@ returns-then-above-itself c =
     let d = c.args.self.now in
     let x = c.args.rule in
     let h = c.if-above-itself.ensures.yes refl in (
-      above_itself (h.0, subst (λ (rs : List Rule). Above rs h.0 h.0) (longer-rules d x c.requires.upper c.requires.lower c.requires.room) h.1),
-      rule-none (model d) x.upper x.relation x.lower 8
+      above_itself (h.0, subst (λ (rs : List Rule). Above rs h.0 h.0) (longer_rules d x c.requires.upper c.requires.lower c.requires.room) h.1),
+      rule_none (model d) x.upper x.relation x.lower 8
           (record {
             repeats = λ _. c.requires.fresh;
             names = λ _ o. ⊎_elim (λ no. no c.requires.upper) (λ no. no c.requires.lower) o;
@@ -41,20 +41,20 @@ returns-then-above-itself c =
 -- with the rule there is still no production that has priority over itself
 above_none : (c : goal.Else-above-itself) → ¬ AboveItself (model c.args.self.now) (rule c.args.rule)
 above_none c h =
-    subst Ordered (longer-rules c.args.self.now c.args.rule c.requires.upper c.requires.lower c.requires.room) (c.if-above-itself.ensures.no refl) h.0 h.1
+    subst Ordered (longer_rules c.args.self.now c.args.rule c.requires.upper c.requires.lower c.requires.room) (c.if-above-itself.ensures.no refl) h.0 h.1
 
 kept : (c : goal.Else-above-itself) → WellFormed (grammar c.args.self.now.start c.args.self.now.productions c.args.self.now.count (set c.args.self.now.rules c.args.self.now.ruled c.args.rule) (c.args.self.now.ruled + 1))
 kept c =
     let d = c.args.self.now in
     let x = c.args.rule in
-    subst WellFormed (sym (grown-rules d x c.requires.upper c.requires.lower c.requires.room))
+    subst WellFormed (sym (grown_rules d x c.requires.upper c.requires.lower c.requires.room))
     (rule_kept (model d) x.upper x.relation x.lower (well_formed d) c.requires.upper c.requires.lower (λ full. let r = c.requires.room in omega arith) c.requires.fresh (above_none c))
 
 pub invariant-of-self : goal.invariant-of-self
 invariant-of-self c =
     let d = c.args.self.now in
     let x = c.args.rule in
-    let l = free-rule d x c.requires.upper c.requires.lower c.requires.room in
+    let l = free_rule d x c.requires.upper c.requires.lower c.requires.room in
     let w = kept c in (
       d.room,
       (
@@ -64,7 +64,7 @@ invariant-of-self c =
           (
             omega arith,
             (
-              numbers-kept d x c.requires.upper c.requires.lower c.requires.room,
+              numbers_kept d x c.requires.upper c.requires.lower c.requires.room,
               (w.small, (d.starts, (w.sides, (w.symbols, (w.prices, (w.apart, (w.named, (w.unrepeated, (w.acyclic, (w.ordered, tt)))))))))),
             ),
           ),
@@ -76,11 +76,11 @@ pub returns : goal.returns
 returns c =
     let d = c.args.self.now in
     let x = c.args.rule in
-    let l = free-rule d x c.requires.upper c.requires.lower c.requires.room in
-    let e = grown-rules d x c.requires.upper c.requires.lower c.requires.room in
+    let l = free_rule d x c.requires.upper c.requires.lower c.requires.room in
+    let e = grown_rules d x c.requires.upper c.requires.lower c.requires.room in
     let none : ¬ AboveItself (model d) (rule x) =
-    λ h. subst Ordered (longer-rules d x c.requires.upper c.requires.lower c.requires.room) (c.if-above-itself.ensures.no refl) h.0 h.1 in (
-      λ n. rule-none (model d) x.upper x.relation x.lower (suc n)
+    λ h. subst Ordered (longer_rules d x c.requires.upper c.requires.lower c.requires.room) (c.if-above-itself.ensures.no refl) h.0 h.1 in (
+      λ n. rule_none (model d) x.upper x.relation x.lower (suc n)
           (record {
             repeats = λ _. c.requires.fresh;
             names = λ _ o. ⊎_elim (λ no. no c.requires.upper) (λ no. no c.requires.lower) o;

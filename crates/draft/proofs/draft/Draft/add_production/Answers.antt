@@ -3,7 +3,7 @@ use Rattle.grammar.specs.Grammar.{Production}
 use Rattle.grammar.specs.Model.{production}
 use Rattle.draft.specs.Calls.{OutOfRange, TooLong, NoRoom, Repeats, symbol_out_of_range, right_too_long, productions_full, sides_repeated, AddsProduction}
 use Rattle.draft.specs.Model.{model}
-use Rattle.draft.proofs.Causes.{below_one, below_two, below-three, below-four, production-none}
+use Rattle.draft.proofs.Causes.{below_one, below_two, below_three, below_four, production_none}
 use Rattle.draft.proofs.Tables.{short}
 use Rattle.draft.proofs.draft.Draft.add_production.Goals as goal
 
@@ -15,13 +15,13 @@ pub returns-then-not-in-range : goal.returns-then-not-in-range
 returns-then-not-in-range c =
     let g = model c.args.self.now in
     let p = asked c.args.left c.args.right.now c.args.price in
-    (symbol_out_of_range (c.if-not-in-range.ensures.no refl), production-none g p 1 (below_one g p), refl)
+    (symbol_out_of_range (c.if-not-in-range.ensures.no refl), production_none g p 1 (below_one g p), refl)
 
 pub returns-in-default : goal.returns-in-default
 returns-in-default c =
     let g = model c.args.self.now in
     let p = asked c.args.left c.args.right.now c.args.price in
-    (right_too_long c.in-default.ensures, production-none g p 2 (below_two g p (c.if-not-in-range.ensures.yes refl)), refl)
+    (right_too_long c.in-default.ensures, production_none g p 2 (below_two g p (c.if-not-in-range.ensures.yes refl)), refl)
 
 pub returns-then-not-has-room : goal.returns-then-not-has-room
 returns-then-not-has-room c =
@@ -29,7 +29,7 @@ returns-then-not-has-room c =
     let p = asked c.args.left c.args.right.now c.args.price in
     let e = c.in-Some.ensures in (
       productions_full (subst (NoRoom g) e (c.if-not-has-room.ensures.no refl)),
-      production-none g p 3 (below-three g p (c.if-not-in-range.ensures.yes refl) (λ h. short c.in-Some.production (subst TooLong (sym e) h))),
+      production_none g p 3 (below_three g p (c.if-not-in-range.ensures.yes refl) (λ h. short c.in-Some.production (subst TooLong (sym e) h))),
       refl,
     )
 
@@ -39,8 +39,8 @@ returns-then-has-sides c =
     let p = asked c.args.left c.args.right.now c.args.price in
     let e = c.in-Some.ensures in (
       sides_repeated (c.if-has-sides.ensures.yes refl),
-      production-none g p 4
-          (below-four g p (c.if-not-in-range.ensures.yes refl) (λ h. short c.in-Some.production (subst TooLong (sym e) h)) (λ h. c.if-not-has-room.ensures.yes refl (subst (NoRoom g) (sym e) h))),
+      production_none g p 4
+          (below_four g p (c.if-not-in-range.ensures.yes refl) (λ h. short c.in-Some.production (subst TooLong (sym e) h)) (λ h. c.if-not-has-room.ensures.yes refl (subst (NoRoom g) (sym e) h))),
       refl,
     )
 

@@ -3,14 +3,14 @@ use Rattle.std.proofs.lemmas.List.{get_or_default}
 use Rattle.std.proofs.lemmas.Bool.{true≢false, false≢true}
 use Rattle.grammar.specs.declared.rule.Rule.{Rule}
 use Rattle.draft.specs.Stored.{SameRule}
-use Rattle.draft.proofs.Rules.{no_numbered, says-it, said-by}
+use Rattle.draft.proofs.Rules.{no_numbered, says_it, said_by}
 use Rattle.draft.proofs.draft.Draft.has_rule.Goals as goal
 
 pub returns-then-same-rule : goal.returns-then-same-rule
 returns-then-same-rule c =
     let d = c.args.self.now in
     record {
-      yes = λ _. says-it d.rules d.ruled d.count (omega arith) d.numbers c.args.upper c.args.relation c.args.lower c.loop-i.i _ (omega arith) (c.if-same-rule.ensures.yes refl);
+      yes = λ _. says_it d.rules d.ruled d.count (omega arith) d.numbers c.args.upper c.args.relation c.args.lower c.loop-i.i _ (omega arith) (c.if-same-rule.ensures.yes refl);
       no = λ t. absurd (true≢false t);
     }
 
@@ -26,5 +26,5 @@ returns c =
     let d = c.args.self.now in
     record {
       yes = λ t. absurd (false≢true t);
-      no = λ _ s. let f = said-by d.rules d.ruled d.count (omega arith) d.numbers c.args.upper c.args.relation c.args.lower no_numbered s in c.loop-i.invariant f.0 (omega (arith, f.1)) no_numbered f.2;
+      no = λ _ s. let f = said_by d.rules d.ruled d.count (omega arith) d.numbers c.args.upper c.args.relation c.args.lower no_numbered s in c.loop-i.invariant f.0 (omega (arith, f.1)) no_numbered f.2;
     }

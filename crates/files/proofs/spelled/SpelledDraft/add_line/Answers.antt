@@ -4,7 +4,7 @@ use Rattle.grammar.specs.Grammar.{Production}
 use Rattle.syntax.specs.Model.{spelling}
 use Rattle.draft.specs.Calls.{AddsProduction, OutOfRange, right_too_long}
 use Rattle.draft.specs.Model.{model as grammar_of}
-use Rattle.draft.proofs.Causes.{below_two, production-none}
+use Rattle.draft.proofs.Causes.{below_two, production_none}
 use Rattle.draft.proofs.Tables.{counted}
 use Rattle.spellings.specs.Model.{words}
 use Rattle.spellings.proofs.Gathering.{right_in_range, gathered}
@@ -21,7 +21,7 @@ returns-in-default c ss v g =
     let few : length ws ≤ 32 = omega (arith, counted spelling s.spellings.words s.spellings.count (omega arith)) in
     let p : Production = record { left = c.args.left; right = o.0; price = c.args.price } in
     let range : ¬ OutOfRange p = λ h. ⊎_elim (λ l. let z = c.requires in omega arith) (λ l. let z = right_in_range ws few ss o.0 v o.1 l.0 l.1 in omega (arith, l.2)) h in
-    inr (o.0, Err LongRight, o.1, (right_too_long (o.3 c.in-default.ensures), production-none (grammar_of s.draft) p 2 (below_two (grammar_of s.draft) p range), refl), refl, refl)
+    inr (o.0, Err LongRight, o.1, (right_too_long (o.3 c.in-default.ensures), production_none (grammar_of s.draft) p 2 (below_two (grammar_of s.draft) p range), refl), refl, refl)
 
 pub returns-in-Ok : goal.returns-in-Ok
 returns-in-Ok c ss v g =

@@ -4,7 +4,7 @@ use Rattle.draft.proofs.Accepting.{well_formed}
 use Rattle.file_model.specs.Spelled.{Spelled}
 use Rattle.file_model.specs.Files.{production_form, rule_form, ended, rendered, text_of}
 use Rattle.files.specs.Model.{model}
-use Rattle.file_lines.proofs.Written.{first_stops, second-stops, all_three, writes_on}
+use Rattle.file_lines.proofs.Written.{first_stops, second_stops, all_three, writes_on}
 use Rattle.files.proofs.Written.{text_bytes, writes_file}
 use Rattle.files.proofs.spelled.SpelledDraft.put_file.Goals as goal
 
@@ -51,7 +51,7 @@ returns-in-err-productions-at c =
     let start = c.start.result in
     let out = c.args.out.now in
     writes_file s (c.is-spelled.ensures.yes c.if-not-is-spelled.false) out c.put-words.new.out c.from-residual-in-err-productions-at.result
-    (second-stops out 0 (head start) (words_of s) (productions_of s ++ rules_of s) (text_of s) (text_bytes s start c.start.ensures) _ _
+    (second_stops out 0 (head start) (words_of s) (productions_of s ++ rules_of s) (text_of s) (text_bytes s start c.start.ensures) _ _
     c.from-residual-in-err-productions-at.ensures.1 c.put-head.new.out _ c.in-ok-words-at.words-at
     c.in-ok-words-at.ensures
     c.in-err-productions-at.ensures)
@@ -67,7 +67,7 @@ returns-in-err-rules-at c =
     writes_file s (c.is-spelled.ensures.yes c.if-not-is-spelled.false) out c.put-productions.new.out r
     (writes_on out first c.put-productions.new.out 0 at (head start) (words_of s ++ (productions_of s ++ rules_of s)) (text_of s) r (text_bytes s start c.start.ensures)
     c.in-ok-words-at.ensures
-    (second-stops first at (words_of s) (productions_of s) (rules_of s) _ refl _ _ c.from-residual-in-err-rules-at.ensures.1 c.put-words.new.out _ c.in-ok-productions-at.productions-at
+    (second_stops first at (words_of s) (productions_of s) (rules_of s) _ refl _ _ c.from-residual-in-err-rules-at.ensures.1 c.put-words.new.out _ c.in-ok-productions-at.productions-at
     c.in-ok-productions-at.ensures
     c.in-err-rules-at.ensures))
 

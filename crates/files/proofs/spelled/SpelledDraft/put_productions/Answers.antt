@@ -5,7 +5,7 @@ use Rattle.draft.proofs.Accepting.{well_formed}
 use Rattle.file_model.specs.Files.{production_form}
 use Rattle.files.specs.Model.{model}
 use Rattle.spellings.specs.Writing.{AllSpelled}
-use Rattle.file_lines.proofs.Written.{writes_none, turned, stopped, all-written, line}
+use Rattle.file_lines.proofs.Written.{writes_none, turned, stopped, all_written, line}
 use Rattle.files.proofs.Written.{right_spelled}
 use Rattle.files.proofs.spelled.SpelledDraft.put_productions.Goals as goal
 use Rattle.files.proofs.spelled.SpelledDraft.put_productions.Goals.{in-Some+in-ok-end, in-default}
@@ -58,6 +58,6 @@ loop-i-preserved c =
 pub returns : goal.returns
 returns c =
     let s = model c.args.self.now in
-    all-written (production_form s.spellings) line s.draft.productions c.args.out.now c.args.at _ c.loop-i.i (Ok _)
+    all_written (production_form s.spellings) line s.draft.productions c.args.out.now c.args.at _ c.loop-i.i (Ok _)
     (omega (arith, c.production-count-i-end.ensures))
     c.loop-i.invariant

@@ -3,7 +3,7 @@ use Rattle.grammar.specs.Grammar.{no_rule, rule_at}
 use Rattle.grammar.specs.Model.{rule}
 use Rattle.file_model.specs.Files.{rule_form}
 use Rattle.files.specs.Model.{model}
-use Rattle.file_lines.proofs.Written.{writes_none, turned, stopped, all-written, line}
+use Rattle.file_lines.proofs.Written.{writes_none, turned, stopped, all_written, line}
 use Rattle.files.proofs.spelled.SpelledDraft.put_rules.Goals as goal
 use Rattle.files.proofs.spelled.SpelledDraft.put_rules.Goals.{in-Some+in-ok-end, in-default}
 
@@ -43,6 +43,6 @@ loop-i-preserved c =
 
 pub returns : goal.returns
 returns c =
-    all-written rule_form line (model c.args.self.now).draft.rules c.args.out.now c.args.at _ c.loop-i.i (Ok _)
+    all_written rule_form line (model c.args.self.now).draft.rules c.args.out.now c.args.at _ c.loop-i.i (Ok _)
     (omega (arith, c.rule-count-i-end.ensures))
     c.loop-i.invariant

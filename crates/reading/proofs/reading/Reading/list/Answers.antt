@@ -2,8 +2,8 @@ use Rattle.std.proofs.Common.{◌≡◌, ℕ, ◌≤◌, length, sym, refl, ap, 
 use Rattle.listing.specs.Calls.{Listed as Lists}
 use Rattle.chart.specs.Chart.{Charted}
 use Rattle.reading.specs.Readings.{words, cells, grammar_of, Marks}
-use Rattle.reading.proofs.Sealed.{means-at, charted-at}
-use Rattle.reading.proofs.Handed.{formed, productions-at, counted}
+use Rattle.reading.proofs.Sealed.{means_at, charted_at}
+use Rattle.reading.proofs.Handed.{formed, productions_at, counted}
 use Rattle.reading.proofs.Words.{standing}
 use Rattle.reading.proofs.reading.Reading.list.Goals as goal
 
@@ -28,7 +28,7 @@ returns c =
       listed = λ long marks.
           subst (λ ws. Charted c.tables-tables.result.now (grammar_of r) ws (cells r) → Lists (grammar_of r) ws c.args.records.now c.list.result c.list.new.records) c.words-words.ensures
           (λ charted.
-          c.list.ensures.listed (grammar_of r) (means-at r.grammar.now _ c.tables-tables.ensures)
-          (productions-at r.grammar.now _ c.draft-draft.ensures _ c.productions-productions.ensures) (formed r.grammar.now) charted)
-          (charted-at r.grammar.now _ c.tables-tables.ensures marks);
+          c.list.ensures.listed (grammar_of r) (means_at r.grammar.now _ c.tables-tables.ensures)
+          (productions_at r.grammar.now _ c.draft-draft.ensures _ c.productions-productions.ensures) (formed r.grammar.now) charted)
+          (charted_at r.grammar.now _ c.tables-tables.ensures marks);
     }

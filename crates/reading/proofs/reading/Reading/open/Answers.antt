@@ -2,7 +2,7 @@ use Rattle.std.proofs.Common.{◌≡◌, ℕ, List, [], length, get_or, sym, ref
 use Rattle.chart.specs.Chart.{Charted, RestKept}
 use Rattle.draft.specs.Sealed.{sealed_model}
 use Rattle.reading.specs.Readings.{Long}
-use Rattle.reading.proofs.Sealed.{means-at, charted-back}
+use Rattle.reading.proofs.Sealed.{means_at, charted_back}
 use Rattle.reading.proofs.reading.Reading.open.Goals as goal
 use Rattle.reading.proofs.reading.Reading.open.Goals.{then-chart-fits, else-chart-fits}
 
@@ -17,7 +17,7 @@ returns c =
             elim c.if-chart-fits.branch [
               | then-chart-fits w ↦
                   subst (Charted g.tables (sealed_model g) []) (sym w.chart-is)
-                  (charted-back g _ w.tables.ensures (w.open-chart.ensures.charted (sealed_model g) (means-at g _ w.tables.ensures)))
+                  (charted_back g _ w.tables.ensures (w.open-chart.ensures.charted (sealed_model g) (means_at g _ w.tables.ensures)))
               | else-chart-fits w ↦ absurd (c.chart-fits.ensures.no w.if-chart-fits.false l)
             ];
         short = λ n.

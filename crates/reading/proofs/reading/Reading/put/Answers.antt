@@ -4,8 +4,8 @@ use Rattle.grammar.specs.Grammar.{Kind}
 use Rattle.chart.specs.Chart.{Charted}
 use Rattle.reading.specs.Readings.{words, cells, grammar_of, tables_of}
 use Rattle.reading.specs.Calls.{line_full, no_kind, nothing_begins}
-use Rattle.reading.proofs.Sealed.{means-at, charted-at, charted-back}
-use Rattle.reading.proofs.Words.{standing, same, kept, put_none, viable, awaited, with-kind}
+use Rattle.reading.proofs.Sealed.{means_at, charted_at, charted_back}
+use Rattle.reading.proofs.Words.{standing, same, kept, put_none, viable, awaited, with_kind}
 use Rattle.reading.proofs.reading.Reading.put.Goals as goal
 
 pub returns-then-at-ge48 : goal.returns-then-at-ge48
@@ -65,7 +65,7 @@ returns-then-not-put c =
       kept = record { grammar = refl; lent = refl; size = ap length same-cells; rest = e.rest };
       short = λ h. absurd (h (omega arith));
       answered = λ _ m. (
-        nothing_begins (λ v. (e.refused refl).1 (grammar_of r) (words r) (means-at r.grammar.now _ c.tables-tables.ensures) n (charted-at r.grammar.now _ c.tables-tables.ensures m) (awaited (grammar_of r) (words r) kind c.from.result k i v)),
+        nothing_begins (λ v. (e.refused refl).1 (grammar_of r) (words r) (means_at r.grammar.now _ c.tables-tables.ensures) n (charted_at r.grammar.now _ c.tables-tables.ensures m) (awaited (grammar_of r) (words r) kind c.from.result k i v)),
         put_none (grammar_of r) (words r) kind 11 (λ _ h. omega (arith, n)) (λ _. k) (λ l. absurd (omega arith)),
         refl,
       );
@@ -86,12 +86,12 @@ returns c =
       kept = record { grammar = refl; lent = refl; size = c.put.auto.cells; rest = e.rest };
       short = λ h. absurd (h (omega arith));
       answered = λ _ m.
-          let t = e.taken refl (grammar_of r) (words r) (means-at r.grammar.now _ c.tables-tables.ensures) n (charted-at r.grammar.now _ c.tables-tables.ensures m) in (
+          let t = e.taken refl (grammar_of r) (words r) (means_at r.grammar.now _ c.tables-tables.ensures) n (charted_at r.grammar.now _ c.tables-tables.ensures m) in (
             λ x. put_none (grammar_of r) (words r) kind (suc x) (λ _ h. omega (arith, n)) (λ _. k) (λ _. viable (grammar_of r) (words r) kind c.from.result k i t.0) x (omega arith),
             (sym (ap length more ∙ length_push (words r) kind ∙ ap (λ y. y + 1) n), more),
           );
       marks = λ _ m.
-          let t = e.taken refl (grammar_of r) (words r) (means-at r.grammar.now _ c.tables-tables.ensures) n (charted-at r.grammar.now _ c.tables-tables.ensures m) in
-          subst (λ (ws : List ℕ). Charted (tables_of r) (grammar_of r) ws c.put.new.cells) (with-kind (grammar_of r) (words r) kind c.from.result k i ∙ sym more) (charted-back r.grammar.now _ c.tables-tables.ensures t.1);
+          let t = e.taken refl (grammar_of r) (words r) (means_at r.grammar.now _ c.tables-tables.ensures) n (charted_at r.grammar.now _ c.tables-tables.ensures m) in
+          subst (λ (ws : List ℕ). Charted (tables_of r) (grammar_of r) ws c.put.new.cells) (with_kind (grammar_of r) (words r) kind c.from.result k i ∙ sym more) (charted_back r.grammar.now _ c.tables-tables.ensures t.1);
       refused = λ x. absurd x;
     }

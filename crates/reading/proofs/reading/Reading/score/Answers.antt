@@ -3,9 +3,9 @@ use Rattle.grammar.specs.Grammar.{places}
 use Rattle.score.specs.Filled.{Filled}
 use Rattle.score_theory.specs.Scores.{Score}
 use Rattle.reading.specs.Readings.{words, cells, grammar_of, ScoreCause, chart_too_short, table_too_short}
-use Rattle.reading.proofs.Sealed.{means-at}
-use Rattle.reading.proofs.Handed.{formed, productions-at, start-at, few, small, lefts, firsts}
-use Rattle.reading.proofs.Scoring.{score-none, score-possible, entries_at, room_at}
+use Rattle.reading.proofs.Sealed.{means_at}
+use Rattle.reading.proofs.Handed.{formed, productions_at, start_at, few, small, lefts, firsts}
+use Rattle.reading.proofs.Scoring.{score_none, score_possible, entries_at, room_at}
 use Rattle.reading.proofs.Words.{standing}
 use Rattle.reading.proofs.reading.Reading.score.Goals as goal
 
@@ -13,7 +13,7 @@ pub returns-then-self-lt4802 : goal.returns-then-self-lt4802
 returns-then-self-lt4802 g c =
     let r = c.args.self.now in
     let cause : ScoreCause r (length c.args.table.now) 14 = chart_too_short (λ l. omega arith) in
-    let none = score-none r (length c.args.table.now) 14 (λ l. absurd (omega arith)) (λ l. absurd (omega arith)) in
+    let none = score_none r (length c.args.table.now) 14 (λ l. absurd (omega arith)) (λ l. absurd (omega arith)) in
     record { scored = (cause, none, refl); refused = (cause, none) }
 
 pub returns-then-table-place-count : goal.returns-then-table-place-count
@@ -21,7 +21,7 @@ returns-then-table-place-count g c =
     let r = c.args.self.now in
     let e = entries_at r _ c.draft-draft.ensures _ c.place-count.ensures _ c.words-words.ensures in
     let cause : ScoreCause r (length c.args.table.now) 16 = table_too_short (omega (arith, e, c.if-table-place-count.true)) in
-    let none = score-none r (length c.args.table.now) 16 (λ l. omega arith) (λ l. absurd (omega arith)) in
+    let none = score_none r (length c.args.table.now) 16 (λ l. omega arith) (λ l. absurd (omega arith)) in
     record { scored = (cause, none, refl); refused = (cause, none) }
 
 pub score-requires : goal.score-requires
@@ -45,13 +45,13 @@ returns g c =
     let r = c.args.self.now in
     let given = r.grammar.now in
     let e = entries_at r _ c.draft-draft.ensures _ c.place-count.ensures _ c.words-words.ensures in
-    let none = score-possible r (length c.args.table.now) (omega arith) (omega (arith, e, c.if-table-place-count.false)) in
+    let none = score_possible r (length c.args.table.now) (omega arith) (omega (arith, e, c.if-table-place-count.false)) in
     record {
       scored = (
         none,
         subst (λ ws. Score g.S.Semiring.scale (grammar_of r) ws c.score.result × Filled g.S.Semiring.scale (grammar_of r) ws c.args.table.now c.score.new.table) c.words-words.ensures
-            (c.score.ensures (grammar_of r) (means-at given _ c.tables-tables.ensures) (productions-at given _ c.draft-draft.ensures _ c.productions-productions.ensures)
-            (start-at given _ c.draft-draft.ensures _ c.productions-productions.ensures ∙ sym c.start.ensures) (formed given)),
+            (c.score.ensures (grammar_of r) (means_at given _ c.tables-tables.ensures) (productions_at given _ c.draft-draft.ensures _ c.productions-productions.ensures)
+            (start_at given _ c.draft-draft.ensures _ c.productions-productions.ensures ∙ sym c.start.ensures) (formed given)),
       );
       refused = none;
     }

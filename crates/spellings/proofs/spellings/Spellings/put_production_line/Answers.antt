@@ -5,7 +5,7 @@ use Rattle.file_model.specs.Spelled.{written}
 use Rattle.file_model.specs.Files.{ended}
 use Rattle.spellings.specs.Model.{words}
 use Rattle.spellings.specs.Writing.{AllSpelled, symbol_parts}
-use Rattle.file_lines.proofs.Written.{first_stops, second-stops, all_three}
+use Rattle.file_lines.proofs.Written.{first_stops, second_stops, all_three}
 use Rattle.spellings.proofs.Written.{production_bytes}
 use Rattle.spellings.proofs.spellings.Spellings.put_production_line.Goals as goal
 
@@ -36,7 +36,7 @@ returns-in-err-end c =
     let ws = words c.args.self.now in
     let p = production c.args.production.now in
     let right = c.right.result.now in
-    second-stops c.args.out.now c.args.at (letter c.left.result ++ 32 ∷ 61 ∷ 32 ∷ []) (symbol_parts (map (written ws) right)) (59 ∷ 32 ∷ ended (decimal p.price)) _
+    second_stops c.args.out.now c.args.at (letter c.left.result ++ 32 ∷ 61 ∷ 32 ∷ []) (symbol_parts (map (written ws) right)) (59 ∷ 32 ∷ ended (decimal p.price)) _
     (production_bytes ws p c.left.result p.price right c.left.ensures c.right.ensures refl) _ _
     c.from-residual-in-err-end.ensures.1 c.put-left.new.out _ c.in-ok-begun.begun
     c.in-ok-begun.ensures

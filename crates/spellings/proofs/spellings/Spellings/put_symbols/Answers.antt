@@ -4,7 +4,7 @@ use Rattle.syntax.proofs.Writes.{writes_then, writes_stop}
 use Rattle.file_model.specs.Spelled.{written}
 use Rattle.spellings.specs.Model.{words}
 use Rattle.spellings.specs.Writing.{symbol_part}
-use Rattle.file_lines.proofs.Written.{writes_none, turned, stopped, all-written}
+use Rattle.file_lines.proofs.Written.{writes_none, turned, stopped, all_written}
 use Rattle.spellings.proofs.spellings.Spellings.put_symbols.Goals as goal
 
 pub loop-symbol-init : goal.loop-symbol-init
@@ -53,6 +53,6 @@ loop-symbol-preserved c =
 
 pub returns : goal.returns
 returns c =
-    all-written (written (words c.args.self.now)) symbol_part c.args.right.now c.args.out.now c.args.at _ c.loop-symbol.symbol-index (Ok _)
+    all_written (written (words c.args.self.now)) symbol_part c.args.right.now c.args.out.now c.args.at _ c.loop-symbol.symbol-index (Ok _)
     c.loop-symbol-test.false
     c.loop-symbol.invariant

@@ -2,7 +2,7 @@ use Rattle.std.proofs.Common.{ℕ, get_or, Ok, refl, ap, ◌∙◌, arith}
 use Rattle.syntax.specs.Syntax.{word_line, name}
 use Rattle.syntax.specs.Model.{spelling}
 use Rattle.spellings.specs.Model.{words}
-use Rattle.file_lines.proofs.Written.{writes_none, turned, stopped, all-written, line}
+use Rattle.file_lines.proofs.Written.{writes_none, turned, stopped, all_written, line}
 use Rattle.spellings.proofs.Written.{few_words}
 use Rattle.spellings.proofs.spellings.Spellings.put_words.Goals as goal
 use Rattle.spellings.proofs.spellings.Spellings.put_words.Goals.{in-Some+in-ok-end, in-default}
@@ -49,6 +49,6 @@ loop-i-preserved c =
 
 pub returns : goal.returns
 returns c =
-    all-written word_line line (words c.args.self.now) c.args.out.now c.args.at _ c.loop-i.i (Ok _)
+    all_written word_line line (words c.args.self.now) c.args.out.now c.args.at _ c.loop-i.i (Ok _)
     (omega (arith, c.count-i-end.ensures))
     c.loop-i.invariant

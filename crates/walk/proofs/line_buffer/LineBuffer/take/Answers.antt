@@ -1,11 +1,11 @@
 use Rattle.std.proofs.Common.{◌+◌, take, drop, sym, refl, ap, arith}
 use Rattle.std.proofs.lemmas.List.{length-take-le}
 use Rattle.walk.specs.Buffers.{held}
-use Rattle.walk.proofs.Buffering.{kept-none, kept_next, line_at, free_more, all_taken}
+use Rattle.walk.proofs.Buffering.{kept_none, kept_next, line_at, free_more, all_taken}
 use Rattle.walk.proofs.line_buffer.LineBuffer.take.Goals as goal
 
 pub loop-i-init : goal.loop-i-init
-loop-i-init c = let b = c.args.self.now in (kept-none 16385 b.bytes b.count b.few b.room, λ k l e. absurd (omega arith))
+loop-i-init c = let b = c.args.self.now in (kept_none 16385 b.bytes b.count b.few b.room, λ k l e. absurd (omega arith))
 
 pub returns-then-part-i-eq-LINE-FEED : goal.returns-then-part-i-eq-LINE-FEED
 returns-then-part-i-eq-LINE-FEED c =

@@ -1,6 +1,6 @@
 use Rattle.std.proofs.Common.{refl}
 use Rattle.walk.proofs.Buffering.{taken_within, less_left}
-use Rattle.walk.proofs.Parts.{took-line, took-rest}
+use Rattle.walk.proofs.Parts.{took_line, took_rest}
 use Rattle.walk.proofs.session.Session.take.Goals as goal
 
 pub slice-bounds-rest-count : goal.slice-bounds-rest-count
@@ -15,10 +15,10 @@ loop-taken-smaller g c = less_left c.loop-taken.rest.now c.in-Some.taken (taken_
 pub loop-taken-preserved : goal.loop-taken-preserved
 loop-taken-preserved g c v h =
     c.loop-taken.invariant v
-    (took-line c.loop-taken.self _ c.loop-taken.rest.now (record { grammar = refl; spellings = refl; chart = refl; count = refl }) _ v _
+    (took_line c.loop-taken.self _ c.loop-taken.rest.now (record { grammar = refl; spellings = refl; chart = refl; count = refl }) _ v _
     c.in-Some.taken c.in-Some.ensures c.end-line-report.ensures h)
 
 pub returns : goal.returns
 returns g c =
     c.loop-taken.invariant _
-    (took-rest c.loop-taken.self _ c.loop-taken.rest.now (record { grammar = refl; spellings = refl; chart = refl; count = refl }) c.in-default.ensures)
+    (took_rest c.loop-taken.self _ c.loop-taken.rest.now (record { grammar = refl; spellings = refl; chart = refl; count = refl }) c.in-default.ensures)
