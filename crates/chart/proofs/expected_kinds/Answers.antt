@@ -26,8 +26,8 @@ pub loop-kind-preserved : goal.loop-kind-preserved
 loop-kind-preserved c =
     let places = c.gather-places.result in
     one_more (λ b. Meets places.low places.high c.args.t.now.before (2 * b))
-    c.loop-kind.kinds c.with-kind-kinds.result c.loop-kind.kind
-    c.loop-kind.invariant c.with-kind-kinds.ensures
+    c.loop-kind.kinds c.with_kind-kinds.result c.loop-kind.kind
+    c.loop-kind.invariant c.with_kind-kinds.ensures
 
 pub returns : goal.returns
 returns c g ws m len chart b l =

@@ -8,7 +8,7 @@ loop-p-init c = started_none c.args.t.now c.clear.new.cells
 
 pub loop-p-preserved : goal.loop-p-preserved
 loop-p-preserved c =
-    let v = c.add-start.ensures in
+    let v = c.add_start.ensures in
     started_more c.args.t.now c.loop-p.p c.clear.new.cells c.loop-p.cells _ _ c.loop-p.invariant v.moved v.makes
 
 pub returns : goal.returns
@@ -16,9 +16,9 @@ returns c = record {
   charted =
       opened c.args.t.now c.loop-p.p c.args.cells.now c.clear.new.cells c.loop-p.cells _ c.clear.ensures (omega arith)
       c.loop-p.invariant
-      c.close-column.ensures.closed;
+      c.close_column.ensures.closed;
   rest = λ k l.
-      c.close-column.ensures.moved.1.other k (inr (omega arith))
+      c.close_column.ensures.moved.1.other k (inr (omega arith))
       ∙ c.loop-p.invariant.moved.1.other k (inr (omega arith))
       ∙ c.clear.ensures.other k (inr l);
 }

@@ -25,9 +25,9 @@ returns c =
       taken = λ _ g ws m len chart. (
         (awaited t n kind _ _ cells (omega arith) (omega arith) c.gather.ensures g ws m len chart).0
             (c.meets.ensures.yes c.if-not-meets.false),
-        put_charted t n kind (omega arith) cells c.scan.new.cells c.close-column.new.cells
-            c.scan.ensures c.close-column.ensures.closed g ws m len chart,
+        put_charted t n kind (omega arith) cells c.scan.new.cells c.close_column.new.cells
+            c.scan.ensures c.close_column.ensures.closed g ws m len chart,
       );
       refused = λ t. search rules;
-      rest = λ k l. c.close-column.ensures.moved.1.other k (inr (omega arith)) ∙ c.scan.ensures.other k (inr (omega arith));
+      rest = λ k l. c.close_column.ensures.moved.1.other k (inr (omega arith)) ∙ c.scan.ensures.other k (inr (omega arith));
     }

@@ -14,9 +14,9 @@ use Rattle.clients.proofs.or_and_counted.Goals as goal
 
 pub returns : goal.returns
 returns c =
-    let counted : (g : Grammar) (n : ℕ) → Trees g or_and (suc n) → sealed_model c.args.grammar.now ≡ g → Long c.args.chart.now → places g.productions * 36 ≤ length c.args.counts.now → (v : Count) × (c.score-words.result ≡ Ok v) × (v.value ≡ suc n) = λ g n t m l room. (
+    let counted : (g : Grammar) (n : ℕ) → Trees g or_and (suc n) → sealed_model c.args.grammar.now ≡ g → Long c.args.chart.now → places g.productions * 36 ≤ length c.args.counts.now → (v : Count) × (c.score_words.result ≡ Ok v) × (v.value ≡ suc n) = λ g n t m l room. (
       t.scored.0,
-      c.score-words.ensures.scored t.scored.0 l (omega arith)
+      c.score_words.ensures.scored t.scored.0 l (omega arith)
           (subst (λ g. Sentence g or_and) (sym m) (trees_sentence g or_and n t))
           (subst (λ (g : Grammar). places g.productions * 36 ≤ length c.args.counts.now) (sym m) room)
           (subst (λ g. Score count g or_and t.scored.0) (sym m) t.scored.1),
@@ -25,5 +25,5 @@ returns c =
     record {
       conditions = counted _ 0 examples.conditions_trees;
       unruled = counted _ 1 examples.unruled_conditions_trees;
-      short = λ n. c.score-words.ensures.short n;
+      short = λ n. c.score_words.ensures.short n;
     }

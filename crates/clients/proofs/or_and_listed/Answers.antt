@@ -7,6 +7,6 @@ use Rattle.clients.proofs.or_and_listed.Goals as goal
 
 pub returns : goal.returns
 returns c = record {
-  conditions = λ m l room. c.list-words.ensures.listed or_and_listing l (omega arith) (subst (λ g. Lists g or_and or_and_listing) (sym m) examples.conditions_lists) room;
-  short = λ n. (c.list-words.ensures.short n).0;
+  conditions = λ m l room. c.list_words.ensures.listed or_and_listing l (omega arith) (subst (λ g. Lists g or_and or_and_listing) (sym m) examples.conditions_lists) room;
+  short = λ n. (c.list_words.ensures.short n).0;
 }

@@ -14,11 +14,11 @@ returns c =
     record {
       conditions = λ m l room. (
         costs.0,
-        c.score-words.ensures.scored costs.0 l (omega arith)
+        c.score_words.ensures.scored costs.0 l (omega arith)
             (subst (λ g. Sentence g or_and) (sym m) (lists_sentence _ _ _ examples.conditions_lists))
             (subst (λ (g : Grammar). places g.productions * 36 ≤ length c.args.prices.now) (sym m) room)
             (subst (λ g. Score price g or_and costs.0) (sym m) costs.1),
         costs.2,
       );
-      short = λ n. c.score-words.ensures.short n;
+      short = λ n. c.score_words.ensures.short n;
     }

@@ -15,9 +15,9 @@ loop-rule-preserved c =
     let rs = c.args.rules.now in
     let i = c.loop-rule.rule-index in
     let mid = Holds c.loop-rule.rows in
-    let after = Holds c.put-rule.new.rows in
+    let after = Holds c.put_rule.new.rows in
     gathers_more (Holds c.empty-rows.result) mid after i (λ k. Prefers (rule_at (rules rs) k)) c.loop-rule.invariant
-    (subst (λ r. Adds mid after (Prefers r)) (sym (get_or-map rule rs i _ no_rule c.loop-rule-test.true)) c.put-rule.ensures)
+    (subst (λ r. Adds mid after (Prefers r)) (sym (get_or-map rule rs i _ no_rule c.loop-rule-test.true)) c.put_rule.ensures)
 
 pub returns : goal.returns
 returns c p q =

@@ -9,8 +9,8 @@ use Rattle.derivations.proofs.Gathering.{gathers_more, gathers_all}
 use Rattle.derivations.proofs.Leading.{PassesSome, PassesAt, passes_leads}
 use Rattle.derivations.proofs.leads.Goals as goal
 
-pub put-places-requires : goal.put-places-requires
-put-places-requires c =
+pub put_places-requires : goal.put_places-requires
+put_places-requires c =
     left_is_nonterminal c.args.productions.now c.loop-p.p-index c.p-item.result c.requires c.loop-p-test.true c.p-item.is
 
 pub loop-p-preserved : goal.loop-p-preserved
@@ -19,9 +19,9 @@ loop-p-preserved c =
     let set = c.nullable-set.result in
     let i = c.loop-p.p-index in
     let mid = Holds c.loop-p.rows in
-    let after = Holds c.put-places.new.rows in
+    let after = Holds c.put_places.new.rows in
     gathers_more (Holds c.empty-rows.result) mid after i (PassesAt set (productions ps)) c.loop-p.invariant
-    (subst (λ p. Adds mid after (PassesSome set p)) (is_at ps i c.p-item.result c.loop-p-test.true c.p-item.is) c.put-places.ensures)
+    (subst (λ p. Adds mid after (PassesSome set p)) (is_at ps i c.p-item.result c.loop-p-test.true c.p-item.is) c.put_places.ensures)
 
 pub returns : goal.returns
 returns c A B =

@@ -5,11 +5,11 @@ use Rattle.derivations.specs.Steps.{EveryIn}
 use Rattle.derivations.proofs.Splitting.{before, behind, around}
 use Rattle.derivations.proofs.others_in.Goals as goal
 
-pub returns-then-not-all-in : goal.returns-then-not-all-in
-returns-then-not-all-in c =
+pub returns-then-not-all_in : goal.returns-then-not-all_in
+returns-then-not-all_in c =
     record {
       yes = λ e. absurd (false≢true e);
-      no = λ _ others. c.all-in.ensures.no c.if-not-all-in.true (before c.args.set c.args.right.now c.args.k others);
+      no = λ _ others. c.all_in.ensures.no c.if-not-all_in.true (before c.args.set c.args.right.now c.args.k others);
     }
 
 pub returns : goal.returns
@@ -19,6 +19,6 @@ returns c =
     let k = c.args.k in
     let rest = take_rest xs (k + 1) in
     record {
-      yes = λ e. around set xs k (c.all-in.ensures.yes c.if-not-all-in.false) (subst (EveryIn set) rest (c.all-in-2.ensures.yes e));
-      no = λ e others. c.all-in-2.ensures.no e (subst (EveryIn set) (sym rest) (behind set xs k others));
+      yes = λ e. around set xs k (c.all_in.ensures.yes c.if-not-all_in.false) (subst (EveryIn set) rest (c.all_in-2.ensures.yes e));
+      no = λ e others. c.all_in-2.ensures.no e (subst (EveryIn set) (sym rest) (behind set xs k others));
     }

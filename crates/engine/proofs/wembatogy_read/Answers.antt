@@ -7,7 +7,7 @@ pub pack-requires : goal.pack-requires
 pack-requires c = book_line c.in-Err.ensures
 
 pub returns-in-Ok : goal.returns-in-Ok
-returns-in-Ok c = book_read c.in-Ok.ensures c.read-by.ensures
+returns-in-Ok c = book_read c.in-Ok.ensures c.read_by.ensures
 
 pub returns-in-Err : goal.returns-in-Err
 returns-in-Err c =

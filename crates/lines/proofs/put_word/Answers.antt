@@ -1,8 +1,8 @@
 use Rattle.lines.specs.Lines.{unknown, refused, taken}
 use Rattle.lines.proofs.put_word.Goals as goal
 
-pub returns-in-default : goal.returns-in-default
-returns-in-default c = unknown c.in-default.ensures
+pub returns-in_default : goal.returns-in_default
+returns-in_default c = unknown c.in_default.ensures
 
 pub returns-in-Ok : goal.returns-in-Ok
 returns-in-Ok c = taken c.in-Some.ensures c.in-Ok.ensures

@@ -19,9 +19,9 @@ pub returns-in-Some : goal.returns-in-Some
 returns-in-Some c =
     let s : Sources = record { tables = c.args.tables; productions = c.args.productions; words = c.args.words; cells = c.args.cells } in
     record {
-      size = c.list-node.auto.records;
+      size = c.list_node.auto.records;
       listed = λ g means same formed charted.
           listed s g (record { means = means; same = same; formed = formed; charted = charted })
           (c.requires.long, c.requires.few, c.requires.counted) c.in-Some.production c.in-Some.ensures c.args.records.now
-          c.list-node.new.records c.list-node.result (c.list-node.ensures g);
+          c.list_node.new.records c.list_node.result (c.list_node.ensures g);
     }

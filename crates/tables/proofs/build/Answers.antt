@@ -60,8 +60,8 @@ live-live-requires c =
 pub starts-starts-requires : goal.starts-starts-requires
 starts-starts-requires c = record { few = few c.args.productions.now c.requires.formed.small.0 }
 
-pub invariant-of-result : goal.invariant-of-result
-invariant-of-result c =
+pub invariant_of-result : goal.invariant_of-result
+invariant_of-result c =
     let ps = c.args.productions.now in
     let low : (k : ℕ) → k < length ps → get_or c.firsts-first.result k 0 < 128 =
     λ k l. omega (arith, c.firsts-first.ensures.each k (known_at ps k l), last_low (productions ps) k (known_at ps k l), c.requires.formed.small.1) in

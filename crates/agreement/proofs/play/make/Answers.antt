@@ -6,7 +6,7 @@ pub returns-in-Put : goal.returns-in-Put
 returns-in-Put g c = put_made _ _ _ _ _ _ c.in-Put.is c.put.ensures
 
 pub returns-in-TakeBack : goal.returns-in-TakeBack
-returns-in-TakeBack g c = back_made _ _ _ _ _ c.in-TakeBack.is c.take-back.ensures
+returns-in-TakeBack g c = back_made _ _ _ _ _ c.in-TakeBack.is c.take_back.ensures
 
 pub returns-in-Look : goal.returns-in-Look
 returns-in-Look g c = look_made _ _ _ _ c.in-Look.is c.look.ensures

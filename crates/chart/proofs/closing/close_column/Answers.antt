@@ -10,12 +10,12 @@ loop-changed-init c = ((false, moves_none c.args.t.now c.args.j c.args.cells.now
 
 pub loop-changed-preserved : goal.loop-changed-preserved
 loop-changed-preserved c =
-    let one = c.complete-column-completed.ensures in
-    let two = c.predict-column-predicted.ensures in
+    let one = c.complete_column-completed.ensures in
+    let two = c.predict_column-predicted.ensures in
     let was = c.loop-changed.invariant.0 in (
       (_, moves_then was.1 (moves_then one.moved two.moved)),
       λ same.
-          let parts = or_parts c.complete-column-completed.result c.predict-column-predicted.result same in
+          let parts = or_parts c.complete_column-completed.result c.predict_column-predicted.result same in
           let same-cells = sym (two.moved.growth.quiet parts.1) in
           (subst (Completed c.args.t.now c.args.j) same-cells (one.done parts.0), two.done parts.1),
     )

@@ -12,7 +12,7 @@ pub loop-s-preserved : goal.loop-s-preserved
 loop-s-preserved c =
     let j = c.args.j in
     let s = c.loop-s.s in
-    let v = c.complete-origin-changed.ensures in
+    let v = c.complete_origin-changed.ensures in
     pass_step (OriginDone c.args.t.now j) (λ k. (s ≤ k) × (k < j + 1)) (λ k. (s - 1 ≤ k) × (k < j + 1)) (s - 1)
     (λ k n l. let low = l.0 in let high = l.1 in (omega (arith, n), high)) c.loop-s.invariant v.moved v.done
 

@@ -14,7 +14,7 @@ loop-q-init c =
 pub loop-q-preserved : goal.loop-q-preserved
 loop-q-preserved c =
     let q = c.loop-q.q in
-    let v = c.complete-if-whole-changed.ensures in
+    let v = c.complete_if_whole-changed.ensures in
     pass_step (ProductionDone c.args.t.now c.args.s c.args.j) (λ k. k < q) (λ k. k < q + 1) q (λ k n l. omega (arith, n))
     c.loop-q.invariant v.moved v.done
 

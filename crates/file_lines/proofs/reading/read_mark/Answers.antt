@@ -14,6 +14,6 @@ returns-in-82 c =
           ∙ ap (λ m. m ++ 10 ∷ take (length s - 6) (drop 6 s)) (sym mark_bytes);
     }
 
-pub returns-in-default : goal.returns-in-default
-returns-in-default c rest l =
+pub returns-in_default : goal.returns-in_default
+returns-in_default c rest l =
     let e : c.args.text.now ≡ 82 ∷ 66 ∷ 75 ∷ 32 ∷ 49 ∷ 10 ∷ rest = l.is ∙ ap (λ m. m ++ 10 ∷ rest) mark_bytes in search rules

@@ -8,7 +8,7 @@ use Rattle.listing.specs.Written.{overlaid}
 use Rattle.listing.proofs.Meaning.{size_same, symbol_same}
 use Rattle.listing.proofs.Writing.{overlaid_none}
 use Rattle.listing.proofs.Walks.{known_node, no_room_at_all, front_word_more, done, front_none, child_stepped, child_broke}
-use Rattle.listing.proofs.nodes.+list_node.Goals.{then-symbol-lt16+in-Some+in-ok-n, then-symbol-lt16+in-default, else-symbol-lt16}
+use Rattle.listing.proofs.nodes.+list_node.Goals.{then-symbol-lt16+in-Some+in_ok-n, then-symbol-lt16+in_default, else-symbol-lt16}
 use Rattle.listing.proofs.nodes.+list_node.Goals as goal
 
 pub returns-then-at-records : goal.returns-then-at-records
@@ -23,9 +23,9 @@ loop-k-init t c = (
   λ g of item can. ([], front_begins _ _ _ _ _ can, sym (overlaid_none _ _), sym (add-zero _), simp length-set (omega arith)),
 )
 
-pub returns-in-err-n : goal.returns-in-err-n
-returns-in-err-n t c g of item can =
-    let r = err_from_is_err_and c.from-residual.result c.from-residual.ensures.1 in
+pub returns-in_err-n : goal.returns-in_err-n
+returns-in_err-n t c g of item can =
+    let r = err_from_is_err_and c.from_residual.result c.from_residual.ensures.1 in
     let s = c.args.sources in
     let n = c.args.node in
     let i = c.loop-k.invariant.1 g of item can in
@@ -34,16 +34,16 @@ returns-in-err-n t c g of item can =
     let child = c.in-Some.ensures in
     rw (r.1, r.2)
     (child_broke s g of c.requires.0 n c.rows-rows.result c.rows-rows.ensures.rows (known_node s g of n c.requires.1) item can l
-    i.1 c.in-Some.child child.0 child.1 c.args.records.now c.loop-k.records c.list-node.new.records c.args.at
-    c.loop-k.n c.record-of.result c.in-err-n.field-0.0 c.record-of.ensures i.2 i.3 (c.in-err-n.ensures g))
+    i.1 c.in-Some.child child.0 child.1 c.args.records.now c.loop-k.records c.list_node.new.records c.args.at
+    c.loop-k.n c.record_of.result c.in_err-n.field-0.0 c.record_of.ensures i.2 i.3 (c.in_err-n.ensures g))
 
 pub loop-k-preserved : goal.loop-k-preserved
 loop-k-preserved t c =
     let s = c.args.sources in
     let n = c.args.node in
-    let b₀ = set c.args.records.now c.args.at c.record-of.result in
+    let b₀ = set c.args.records.now c.args.at c.record_of.result in
     elim c.if-symbol-lt16.branch [
-      | then-symbol-lt16+in-Some+in-ok-n w ↦ (
+      | then-symbol-lt16+in-Some+in_ok-n w ↦ (
         omega (arith, c.requires, w.e-is, w.in-Some.ensures.1.can.within),
         λ g of item can.
             let i = c.loop-k.invariant.1 g of item can in
@@ -51,11 +51,11 @@ loop-k-preserved t c =
             omega (arith, c.loop-k-test.true, c.size-k-end.ensures.is, size_same s g of n.production) in
             let child = w.in-Some.ensures in
             child_stepped s g of c.requires.0 n c.rows-rows.result c.rows-rows.ensures.rows (known_node s g of n c.requires.1) item can l
-            i.1 w.in-Some.child child.0 child.1 b₀ c.loop-k.records w.list-node.new.records c.if-symbol-lt16.records
-            (c.args.at + 1) c.loop-k.n w.in-ok-n.n c.if-symbol-lt16.n c.if-symbol-lt16.e i.2 i.3
-            (w.in-ok-n.ensures g) w.records-is w.n-is w.e-is,
+            i.1 w.in-Some.child child.0 child.1 b₀ c.loop-k.records w.list_node.new.records c.if-symbol-lt16.records
+            (c.args.at + 1) c.loop-k.n w.in_ok-n.n c.if-symbol-lt16.n c.if-symbol-lt16.e i.2 i.3
+            (w.in_ok-n.ensures g) w.records-is w.n-is w.e-is,
       )
-      | then-symbol-lt16+in-default w ↦ (
+      | then-symbol-lt16+in_default w ↦ (
         omega (arith, c.loop-k.invariant.0, w.e-is),
         λ g of item can.
             let i = c.loop-k.invariant.1 g of item can in
@@ -64,7 +64,7 @@ loop-k-preserved t c =
             absurd
             (front_none s g of c.requires.0 n c.rows-rows.result c.rows-rows.ensures.rows (known_node s g of n c.requires.1) item can l
             i.1 (omega (arith, w.if-symbol-lt16.true, c.symbol.ensures, symbol_same s g of n.production c.loop-k.k))
-            w.in-default.ensures),
+            w.in_default.ensures),
       )
       | else-symbol-lt16 w ↦ (
         omega (arith, c.loop-k.invariant.0, w.e-is),
@@ -84,12 +84,12 @@ returns t c g of item can =
     let s = c.args.sources in
     let n = c.args.node in
     let i = c.loop-k.invariant.1 g of item can in
-    let was = i.2 ∙ ap (λ x. overlaid (set c.args.records.now c.args.at x) (c.args.at + 1) i.0) c.record-of.ensures in
+    let was = i.2 ∙ ap (λ x. overlaid (set c.args.records.now c.args.at x) (c.args.at + 1) i.0) c.record_of.ensures in
     let room : c.loop-k.n ≤ length (set c.args.records.now c.args.at (entry n.production n.start n.end)) =
     omega (
       arith,
       i.4,
-      length-set c.args.records.now c.args.at c.record-of.result,
+      length-set c.args.records.now c.args.at c.record_of.result,
       length-set c.args.records.now c.args.at
           (entry n.production n.start n.end),
     ) in

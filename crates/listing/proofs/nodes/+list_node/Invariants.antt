@@ -8,8 +8,8 @@ use Rattle.listing.specs.Asked.{words_in, OfGrammar, weight}
 use Rattle.listing.specs.Written.{overlaid}
 use Rattle.listing.proofs.nodes.+list_node.Given as goal
 
-abbrev pub decreases-list-node : goal.decreases-list-node
-decreases-list-node l = weight l.sources l.node.production l.node.start l.node.end
+abbrev pub decreases-list_node : goal.decreases-list_node
+decreases-list_node l = weight l.sources l.node.production l.node.start l.node.end
 
 abbrev pub invariant-loop-k : goal.invariant-loop-k
 invariant-loop-k l =

@@ -45,4 +45,4 @@ returns g c =
     let s = g.S.Semiring.scale in
     let x = c.args.input.now in
     ends s x c.requires.fit c.args.table.now c.clear.new.table c.loop-len.table c.loop-len.len
-    c.loop-len-test.false (blank_at s x c.args.table.now c.clear.new.table c.count-places.result c.count-places.ensures c.clear.ensures) c.loop-len.invariant
+    c.loop-len-test.false (blank_at s x c.args.table.now c.clear.new.table c.count_places.result c.count_places.ensures c.clear.ensures) c.loop-len.invariant

@@ -4,8 +4,8 @@ use Rattle.score.proofs.Advances.{fills_none, fills_then, fills_on, fills_at}
 use Rattle.score.proofs.Stages.{skip_origins}
 use Rattle.score.proofs.filling.fill_length.Goals as goal
 
-pub fill-span-requires : goal.fill-span-requires
-fill-span-requires g c = record {
+pub fill_span-requires : goal.fill_span-requires
+fill_span-requires g c = record {
   fit = c.requires.fit;
   room = omega (arith, c.requires.room, c.loop-i.invariant.size);
   inside = omega (arith, c.requires.inside, c.loop-i-test.true);
@@ -21,10 +21,10 @@ loop-i-preserved g c =
     let x = c.args.input.now in
     let len = c.args.len in
     let i = c.loop-i.i in
-    fills_then s x c.args.table.now c.loop-i.table c.fill-span.new.table
+    fills_then s x c.args.table.now c.loop-i.table c.fill_span.new.table
     (stage len 0 0 0 0) (stage len i 0 0 0) (stage len (i + 1) 0 0 0) c.loop-i.invariant
-    (fills_at s x c.loop-i.table c.fill-span.new.table (stage (i + len - i) i 0 0 0) (stage (i + len - i) (i + 1) 0 0 0)
-    (stage len i 0 0 0) (stage len (i + 1) 0 0 0) (omega arith) (omega arith) c.fill-span.ensures)
+    (fills_at s x c.loop-i.table c.fill_span.new.table (stage (i + len - i) i 0 0 0) (stage (i + len - i) (i + 1) 0 0 0)
+    (stage len i 0 0 0) (stage len (i + 1) 0 0 0) (omega arith) (omega arith) c.fill_span.ensures)
 
 pub returns : goal.returns
 returns g c =

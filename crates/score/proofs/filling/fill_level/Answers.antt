@@ -7,8 +7,8 @@ use Rattle.score.proofs.Advances.{fills_none, fills_then, fills_on, fills_at}
 use Rattle.score.proofs.Stages.{skip_productions}
 use Rattle.score.proofs.filling.fill_level.Goals as goal
 
-pub fill-row-requires : goal.fill-row-requires
-fill-row-requires g c = record {
+pub fill_row-requires : goal.fill_row-requires
+fill_row-requires g c = record {
   fit = c.requires.fit;
   room = omega (arith, c.requires.room, c.loop-p.invariant.size);
   inside = (known_at c.args.input.now.productions.now c.loop-p.p c.loop-p-test.true, c.requires.inside);
@@ -26,9 +26,9 @@ pub loop-p-preserved : goal.loop-p-preserved
 loop-p-preserved g c =
     let j = c.args.j in
     let i = c.args.i in
-    fills_then g.S.Semiring.scale c.args.input.now c.args.table.now c.loop-p.table c.fill-row.new.table
+    fills_then g.S.Semiring.scale c.args.input.now c.args.table.now c.loop-p.table c.fill_row.new.table
     (stage (j - i) i c.args.of 0 0) (stage (j - i) i c.args.of c.loop-p.p 0) (stage (j - i) i c.args.of (c.loop-p.p + 1) 0)
-    c.loop-p.invariant c.fill-row.ensures
+    c.loop-p.invariant c.fill_row.ensures
 
 pub returns : goal.returns
 returns g c =

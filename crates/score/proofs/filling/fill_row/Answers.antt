@@ -10,8 +10,8 @@ use Rattle.score.proofs.filling.fill_row.Goals as goal
 pub bounds-input-p : goal.bounds-input-p
 bounds-input-p g c = stored_at c.args.input.now.productions.now c.args.p c.requires.inside.0
 
-pub fill-entry-requires : goal.fill-entry-requires
-fill-entry-requires g c =
+pub fill_entry-requires : goal.fill_entry-requires
+fill_entry-requires g c =
     let size = ap length (read_right c.args.input.now.productions.now c.args.p _ c.requires.inside.0 _ c.right.ensures) in
     record {
       fit = c.requires.fit;
@@ -34,9 +34,9 @@ loop-k-preserved g c =
     let j = c.args.j in
     let i = c.args.i in
     let at = stage (j - i) i c.args.of c.args.p in
-    fills_then s x c.args.table.now c.loop-k.table c.fill-entry.new.table (at 0) (at c.loop-k.k) (at (c.loop-k.k + 1)) c.loop-k.invariant
-    (fills_at s x c.loop-k.table c.fill-entry.new.table (at c.loop-k.k) (at c.loop-k.k + 1) (at c.loop-k.k) (at (c.loop-k.k + 1))
-    (omega arith) (omega arith) c.fill-entry.ensures)
+    fills_then s x c.args.table.now c.loop-k.table c.fill_entry.new.table (at 0) (at c.loop-k.k) (at (c.loop-k.k + 1)) c.loop-k.invariant
+    (fills_at s x c.loop-k.table c.fill_entry.new.table (at c.loop-k.k) (at c.loop-k.k + 1) (at c.loop-k.k) (at (c.loop-k.k + 1))
+    (omega arith) (omega arith) c.fill_entry.ensures)
 
 pub returns : goal.returns
 returns g c =

@@ -4,8 +4,8 @@ use Rattle.score.proofs.Advances.{fills_none, fills_then, fills_on, fills_at}
 use Rattle.score.proofs.Stages.{skip_levels}
 use Rattle.score.proofs.filling.fill_span.Goals as goal
 
-pub fill-level-requires : goal.fill-level-requires
-fill-level-requires g c = record {
+pub fill_level-requires : goal.fill_level-requires
+fill_level-requires g c = record {
   fit = c.requires.fit;
   room = omega (arith, c.requires.room, c.loop-of.invariant.size);
   inside = c.requires.inside;
@@ -23,8 +23,8 @@ pub loop-of-preserved : goal.loop-of-preserved
 loop-of-preserved g c =
     let j = c.args.j in
     let i = c.args.i in
-    fills_then g.S.Semiring.scale c.args.input.now c.args.table.now c.loop-of.table c.fill-level.new.table
-    (stage (j - i) i 0 0 0) (stage (j - i) i c.loop-of.of 0 0) (stage (j - i) i (c.loop-of.of + 1) 0 0) c.loop-of.invariant c.fill-level.ensures
+    fills_then g.S.Semiring.scale c.args.input.now c.args.table.now c.loop-of.table c.fill_level.new.table
+    (stage (j - i) i 0 0 0) (stage (j - i) i c.loop-of.of 0 0) (stage (j - i) i (c.loop-of.of + 1) 0 0) c.loop-of.invariant c.fill_level.ensures
 
 pub returns : goal.returns
 returns g c =

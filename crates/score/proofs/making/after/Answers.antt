@@ -12,8 +12,8 @@ bounds-right-k g c =
     let size = ap length (read_right c.args.input.now.productions.now c.args.p _ c.requires.inside.0 _ c.right.ensures) in
     omega (arith, size, c.requires.position)
 
-pub after-kind-requires : goal.after-kind-requires
-after-kind-requires g c =
+pub after_kind-requires : goal.after_kind-requires
+after_kind-requires g c =
     let right = read_right c.args.input.now.productions.now c.args.p _ c.requires.inside.0 _ c.right.ensures in
     record {
       fit = c.requires.fit;

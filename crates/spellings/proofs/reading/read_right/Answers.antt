@@ -8,28 +8,28 @@ pub returns-then-end-text : goal.returns-then-end-text
 returns-then-end-text c ss price v l =
     let i = c.loop-end.invariant in
     let text = c.args.text.now in
-    no_part text c.loop-end.at i.0 i.1 c.part-end-end.result c.part-end-end.ensures (no_semicolon_part text c.loop-end.at (c.loop-end-test.ensures.no refl)) (omega arith) ss price v
+    no_part text c.loop-end.at i.0 i.1 c.part_end-end.result c.part_end-end.ensures (no_semicolon_part text c.loop-end.at (c.loop-end-test.ensures.no refl)) (omega arith) ss price v
 
-pub returns-in-err-symbol : goal.returns-in-err-symbol
-returns-in-err-symbol c =
+pub returns-in_err-symbol : goal.returns-in_err-symbol
+returns-in_err-symbol c =
     let i = c.loop-end.invariant in
     let text = c.args.text.now in
-    let e = c.part-end-end.ensures in
-    let l : c.part-end-end.result < length text = let w = e.within in omega arith in
-    rw c.from-residual.ensures
+    let e = c.part_end-end.ensures in
+    let l : c.part_end-end.result < length text = let w = e.within in omega arith in
+    rw c.from_residual.ensures
     (λ ss price v _ t.
-    let p = part_is text c.loop-end.at i.0 i.1 c.part-end-end.result e (no_semicolon_part text c.loop-end.at (c.loop-end-test.ensures.no refl)) l ss price v t in
-    c.in-err-symbol.ensures p.0 p.1 p.2)
+    let p = part_is text c.loop-end.at i.0 i.1 c.part_end-end.result e (no_semicolon_part text c.loop-end.at (c.loop-end-test.ensures.no refl)) l ss price v t in
+    c.in_err-symbol.ensures p.0 p.1 p.2)
 
 pub loop-end-preserved : goal.loop-end-preserved
 loop-end-preserved c =
     let i = c.loop-end.invariant in
     let text = c.args.text.now in
-    let e = c.part-end-end.ensures in
-    let l : c.part-end-end.result < length text = let w = e.within in omega arith in
-    let s = c.in-ok-symbol.ensures in (
-      i.0 ++ symbol c.in-ok-symbol.symbol ∷ [],
-      progress_more text c.loop-end.at i.0 i.1 c.part-end-end.result e (no_semicolon_part text c.loop-end.at (c.loop-end-test.ensures.no refl)) l (symbol c.in-ok-symbol.symbol) s.0 s.1,
+    let e = c.part_end-end.ensures in
+    let l : c.part_end-end.result < length text = let w = e.within in omega arith in
+    let s = c.in_ok-symbol.ensures in (
+      i.0 ++ symbol c.in_ok-symbol.symbol ∷ [],
+      progress_more text c.loop-end.at i.0 i.1 c.part_end-end.result e (no_semicolon_part text c.loop-end.at (c.loop-end-test.ensures.no refl)) l (symbol c.in_ok-symbol.symbol) s.0 s.1,
       c.push.ensures i.0 i.2,
     )
 
@@ -37,26 +37,26 @@ loop-end-preserved c =
 found : (c : goal.After-loop-end) → SemicolonAt c.args.text.now c.loop-end.at
 found c = semicolon_part c.args.text.now c.loop-end.at (c.loop-end-test.ensures.yes refl)
 
-pub slice-bounds-read-number-count : goal.slice-bounds-read-number-count
-slice-bounds-read-number-count c = let i = c.loop-end.invariant in room_behind c.args.text.now c.loop-end.at i.0 i.1 (found c)
+pub slice-bounds-read_number-count : goal.slice-bounds-read_number-count
+slice-bounds-read_number-count c = let i = c.loop-end.invariant in room_behind c.args.text.now c.loop-end.at i.0 i.1 (found c)
 
-pub slice-bounds-read-number-start : goal.slice-bounds-read-number-start
-slice-bounds-read-number-start c =
+pub slice-bounds-read_number-start : goal.slice-bounds-read_number-start
+slice-bounds-read_number-start c =
     let i = c.loop-end.invariant in
     let h : c.loop-end.at + 2 ≤ length c.args.text.now = room_behind c.args.text.now c.loop-end.at i.0 i.1 (found c) in search rules
 
-pub returns-in-err-price : goal.returns-in-err-price
-returns-in-err-price c =
+pub returns-in_err-price : goal.returns-in_err-price
+returns-in_err-price c =
     let i = c.loop-end.invariant in
     let text = c.args.text.now in
     let q = semicolon_part text c.loop-end.at (c.loop-end-test.ensures.yes refl) in
-    rw c.from-residual-in-err-price.ensures
-    (λ ss price v l t. c.in-err-price.ensures price l (behind text c.loop-end.at i.0 i.1 q ∙ price_is text c.loop-end.at i.0 i.1 q ss price v t))
+    rw c.from_residual-in_err-price.ensures
+    (λ ss price v l t. c.in_err-price.ensures price l (behind text c.loop-end.at i.0 i.1 q ∙ price_is text c.loop-end.at i.0 i.1 q ss price v t))
 
 pub returns : goal.returns
 returns c =
     let i = c.loop-end.invariant in
     let text = c.args.text.now in
     let q = semicolon_part text c.loop-end.at (c.loop-end-test.ensures.yes refl) in
-    let n = c.in-ok-price.ensures in
+    let n = c.in_ok-price.ensures in
     (i.0, i.1.valid, n.0, whole text c.loop-end.at i.0 i.1 _ q (sym (behind text c.loop-end.at i.0 i.1 q) ∙ n.1), i.2)

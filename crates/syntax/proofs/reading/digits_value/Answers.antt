@@ -14,7 +14,7 @@ overflow-add-n c =
 pub loop-byte-preserved : goal.loop-byte-preserved
 loop-byte-preserved c =
     let inv = c.loop-byte.invariant in
-    let digit = c.if-not-is-ascii-digit.ensures.cases in
+    let digit = c.if-not-is_ascii_digit.ensures.cases in
     digits_step c.args.digits.now c.loop-byte.byte-index c.loop-byte.n _ (omega arith) digit c.from.ensures inv.0 inv.1
 
 pub returns : goal.returns
@@ -23,6 +23,6 @@ returns c =
     let all : take c.loop-byte.byte-index ds ≡ ds = take_all _ ds (omega arith) in
     rw all at c.loop-byte.invariant
 
-pub returns-then-not-is-ascii-digit : goal.returns-then-not-is-ascii-digit
-returns-then-not-is-ascii-digit c = λ h.
-    omega (arith, digit_at c.args.digits.now c.loop-byte.byte-index h (omega arith), c.if-not-is-ascii-digit.ensures.cases)
+pub returns-then-not-is_ascii_digit : goal.returns-then-not-is_ascii_digit
+returns-then-not-is_ascii_digit c = λ h.
+    omega (arith, digit_at c.args.digits.now c.loop-byte.byte-index h (omega arith), c.if-not-is_ascii_digit.ensures.cases)

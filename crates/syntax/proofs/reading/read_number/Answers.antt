@@ -4,31 +4,31 @@ use Rattle.syntax.proofs.Numbers.{shape_of, shape_decimal}
 use Rattle.syntax.proofs.reading.read_number.Goals.{else-part-eq48-via-then-part-eq48+else-part-gt1, else-part-eq48-via-else-part-eq48}
 use Rattle.syntax.proofs.reading.read_number.Goals as goal
 
-pub returns-in-err-n : goal.returns-in-err-n
-returns-in-err-n c = rw c.from-residual.ensures (λ n h e. c.in-err-n.ensures (shape_of n _ h e).digits)
+pub returns-in_err-n : goal.returns-in_err-n
+returns-in_err-n c = rw c.from_residual.ensures (λ n h e. c.in_err-n.ensures (shape_of n _ h e).digits)
 
 pub returns-then-n-le65535 : goal.returns-then-n-le65535
 returns-then-n-le65535 c =
     let part = c.args.part.now in
-    let some : 0 < length part = omega (arith, eqb-false _ 0 (sym c.if-is-empty.ensures)) in
+    let some : 0 < length part = omega (arith, eqb-false _ 0 (sym c.if-is_empty.ensures)) in
     let zero_alone : get_or part 0 0 ≡ 48 → length part ≡ 1 =
     λ z. elim c.else-part-eq48.branch [
       | else-part-eq48-via-then-part-eq48+else-part-gt1 w ↦ omega arith
       | else-part-eq48-via-else-part-eq48 w ↦ absurd (omega arith)
     ] in
-    let d = c.in-ok-n.ensures in
+    let d = c.in_ok-n.ensures in
     (omega arith, shape_decimal _ part record { some = some; short = omega arith; no_zero = zero_alone; digits = d.0; value_is = sym d.1 })
 
 pub returns-else-n-le65535 : goal.returns-else-n-le65535
-returns-else-n-le65535 c = λ n h e. omega (arith, c.in-ok-n.ensures.1, (shape_of n _ h e).value_is)
+returns-else-n-le65535 c = λ n h e. omega (arith, c.in_ok-n.ensures.1, (shape_of n _ h e).value_is)
 
-pub returns-then-is-empty : goal.returns-then-is-empty
-returns-then-is-empty c = λ n h e.
+pub returns-then-is_empty : goal.returns-then-is_empty
+returns-then-is_empty c = λ n h e.
     let s = shape_of n _ h e in
     ⊎_elim
-    (λ (t : c.is-empty.result ≡ true). omega (arith, eqb-true _ 0 (sym c.is-empty.ensures ∙ t)))
+    (λ (t : c.is_empty.result ≡ true). omega (arith, eqb-true _ 0 (sym c.is_empty.ensures ∙ t)))
     (λ p. omega (arith, p.1))
-    c.then-is-empty.either
+    c.then-is_empty.either
 
 pub returns-then-part-gt1 : goal.returns-then-part-gt1
 returns-then-part-gt1 c = λ n h e.

@@ -8,10 +8,10 @@ use Rattle.syntax.proofs.reading.read_spelling.Goals as goal
 no_spelling : (part inner : List ℕ) → part ≡ 34 ∷ (inner ++ 34 ∷ []) → ¬ ValidSpelling (literal inner) → (w : Spelling) → ValidSpelling w → ¬ (part ≡ spelling_text w)
 no_spelling part inner e h w v f = h (subst (λ (s : Spelling). ValidSpelling s) (sym (spelling_injective (literal inner) w (sym e ∙ f))) v)
 
-pub returns-in-err-literal : goal.returns-in-err-literal
-returns-in-err-literal c =
-    rw c.from-residual-in-err-literal.ensures
-    (no_spelling c.args.part.now _ c.in-ok-inner.ensures c.in-err-literal.ensures)
+pub returns-in_err-literal : goal.returns-in_err-literal
+returns-in_err-literal c =
+    rw c.from_residual-in_err-literal.ensures
+    (no_spelling c.args.part.now _ c.in_ok-inner.ensures c.in_err-literal.ensures)
 
 pub returns-in-78-2 : goal.returns-in-78-2
 returns-in-78-2 c =
@@ -24,8 +24,8 @@ returns-in-78 c = (
       (omega arith, (omega arith, (omega arith, (omega arith, tt)))),
 )
 
-pub returns-in-ok-literal : goal.returns-in-ok-literal
-returns-in-ok-literal c = (
-  literal_valid c.in-ok-literal.literal,
-  c.in-ok-inner.ensures ∙ ap (λ bs. 34 ∷ (bs ++ 34 ∷ [])) (sym c.in-ok-literal.ensures),
+pub returns-in_ok-literal : goal.returns-in_ok-literal
+returns-in_ok-literal c = (
+  literal_valid c.in_ok-literal.literal,
+  c.in_ok-inner.ensures ∙ ap (λ bs. 34 ∷ (bs ++ 34 ∷ [])) (sym c.in_ok-literal.ensures),
 )

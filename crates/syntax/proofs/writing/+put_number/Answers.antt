@@ -11,13 +11,13 @@ digits : (n : ℕ) → 10 ≤ n → n < 65536 → decimal n ≡ decimal (n / 10)
 digits n h l = decimal_step n h (omega arith)
 
 pub returns-then-n-lt10 : goal.returns-then-n-lt10
-returns-then-n-lt10 t c = writes_same _ _ c.args.at _ (decimal c.args.n) _ (digit c.args.n (omega arith)) c.put-bytes.ensures
+returns-then-n-lt10 t c = writes_same _ _ c.args.at _ (decimal c.args.n) _ (digit c.args.n (omega arith)) c.put_bytes.ensures
 
-pub returns-in-err-end : goal.returns-in-err-end
-returns-in-err-end t c =
-    let p = err_from_is_err_and c.from-residual.result c.from-residual.ensures.1 in
+pub returns-in_err-end : goal.returns-in_err-end
+returns-in_err-end t c =
+    let p = err_from_is_err_and c.from_residual.result c.from_residual.ensures.1 in
     let n = c.args.n in
-    writes_break _ _ c.args.at (decimal (n / 10)) _ (decimal n) (digits n (omega arith) (omega arith)) p.1 p.2 c.in-err-end.ensures
+    writes_break _ _ c.args.at (decimal (n / 10)) _ (decimal n) (digits n (omega arith) (omega arith)) p.1 p.2 c.in_err-end.ensures
 
 pub returns : goal.returns
 returns t c =
@@ -25,6 +25,6 @@ returns t c =
     let at = c.args.at in
     let before = c.args.out.now in
     writes_same before _ at (decimal (n / 10) ++ (48 + n % 10) ∷ []) (decimal n) _ (digits n (omega arith) (omega arith))
-    (writes_then before c.put-number.new.out _ at c.in-ok-end.end (decimal (n / 10)) ((48 + n % 10) ∷ []) c.put-bytes-2.result
-    c.in-ok-end.ensures
-    c.put-bytes-2.ensures)
+    (writes_then before c.put_number.new.out _ at c.in_ok-end.end (decimal (n / 10)) ((48 + n % 10) ∷ []) c.put_bytes-2.result
+    c.in_ok-end.ensures
+    c.put_bytes-2.ensures)

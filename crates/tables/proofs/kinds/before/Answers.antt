@@ -13,8 +13,8 @@ use Rattle.tables.proofs.kinds.before.Goals as goal
 pub loop-p-init : goal.loop-p-init
 loop-p-init c = (refl, gathers_none 64 _)
 
-pub mark-kinds-requires : goal.mark-kinds-requires
-mark-kinds-requires c =
+pub mark_kinds-requires : goal.mark_kinds-requires
+mark_kinds-requires c =
     let ps = c.args.productions.now in
     let p = c.loop-p.p in
     let l = c.loop-p-test.true in
@@ -33,11 +33,11 @@ loop-p-preserved c =
     let right = right_is ps p c.index-productions-p.result l c.index-productions-p.is _ c.right.ensures in
     let place = c.requires.begins p (known_at ps p l) in
     let mid = Marked c.loop-p.before in
-    let after = Marked c.mark-kinds.new.before in
+    let after = Marked c.mark_kinds.new.before in
     let step =
     subst (λ n. Gathers mid after (length (right_at (productions ps) p)) (λ k x e. At (right_at (productions ps) p) k (16 + x) × (e ≡ n + k))) place
-    (subst (λ (xs : List ℕ). Gathers mid after (length xs) (λ k x e. At xs k (16 + x) × (e ≡ get_or c.args.first.now p 0 + k))) right c.mark-kinds.ensures) in (
-      c.mark-kinds.auto.before ∙ c.loop-p.invariant.0,
+    (subst (λ (xs : List ℕ). Gathers mid after (length xs) (λ k x e. At xs k (16 + x) × (e ≡ get_or c.args.first.now p 0 + k))) right c.mark_kinds.ensures) in (
+      c.mark_kinds.auto.before ∙ c.loop-p.invariant.0,
       gathers_more Nowhere mid after p (Row (productions ps) (KindNext (productions ps))) c.loop-p.invariant.1 step,
     )
 

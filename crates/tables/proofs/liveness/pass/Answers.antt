@@ -7,8 +7,8 @@ use Rattle.tables.proofs.Counting.{right_is, known_at, stored_at, last_low}
 use Rattle.tables.proofs.Least.{passed_more}
 use Rattle.tables.proofs.liveness.pass.Goals as goal
 
-pub with-filled-grown-requires : goal.with-filled-grown-requires
-with-filled-grown-requires c =
+pub with_filled-grown-requires : goal.with_filled-grown-requires
+with_filled-grown-requires c =
     let ps = c.args.productions.now in
     let p = c.loop-p.p in
     let l = c.loop-p-test.true in
@@ -27,8 +27,8 @@ loop-p-preserved c =
     let p = c.loop-p.p in
     let l = c.loop-p-test.true in
     let a = c.loop-p.grown in
-    let b = c.with-filled-grown.result in
-    let e = c.with-filled-grown.ensures in
+    let b = c.with_filled-grown.result in
+    let e = c.with_filled-grown.ensures in
     let right = right_is ps p c.index-productions-p.result l c.index-productions-p.is _ c.right.ensures in
     let place = c.requires.begins p (known_at ps p l) in
     let holds =

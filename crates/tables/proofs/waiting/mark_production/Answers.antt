@@ -30,8 +30,8 @@ overflow-add-first c =
     let size = ap length (right_is ps c.args.p c.index-productions-p.result c.requires.parent c.index-productions-p.is _ c.right-k-end.ensures) in
     omega (arith, last_low (productions ps) c.args.p (known_at ps c.args.p c.requires.parent), c.requires.small, c.requires.place, size, c.loop-k-test.true)
 
-pub mark-each-requires : goal.mark-each-requires
-mark-each-requires c =
+pub mark_each-requires : goal.mark_each-requires
+mark_each-requires c =
     let ps = c.args.productions.now in
     let size = ap length (right_is ps c.args.p c.index-productions-p.result c.requires.parent c.index-productions-p.is _ c.right-k-end.ensures) in (
       omega (arith, c.loop-k.auto.waits, c.requires.room),
@@ -46,10 +46,10 @@ loop-k-preserved c start =
     let k = c.loop-k.k in
     let set = c.admitted.result in
     let mid = Marked c.loop-k.waits in
-    let after = Marked c.mark-each.new.cells in
+    let after = Marked c.mark_each.new.cells in
     let place = ap (λ n. n + k) c.requires.place in
     let step =
-    adds_same mid after (λ x e. Has set x × (e ≡ c.args.first + k)) (Entry ps (WaitsFor g) p k) c.mark-each.ensures
+    adds_same mid after (λ x e. Has set x × (e ≡ c.args.first + k)) (Entry ps (WaitsFor g) p k) c.mark_each.ensures
     (λ x e. (λ h. ((c.admitted.ensures start x).0 h.0, h.1 ∙ place), λ h. ((c.admitted.ensures start x).1 h.0, h.1 ∙ sym place))) in
     gathers_more (Marked c.args.waits.now) mid after k (Entry ps (WaitsFor g) p) (c.loop-k.invariant start) step
 

@@ -12,8 +12,8 @@ use Rattle.tables.proofs.waiting.waits.Goals as goal
 pub loop-p-init : goal.loop-p-init
 loop-p-init c = (refl, λ start. gathers_none 64 _)
 
-pub mark-production-requires : goal.mark-production-requires
-mark-production-requires c =
+pub mark_production-requires : goal.mark_production-requires
+mark_production-requires c =
     let p = c.loop-p.p in
     record {
       numbers = c.requires.numbers;
@@ -29,11 +29,11 @@ mark-production-requires c =
 pub loop-p-preserved : goal.loop-p-preserved
 loop-p-preserved c =
     let ps = productions c.args.productions.now in (
-      c.mark-production.auto.waits ∙ c.loop-p.invariant.0,
+      c.mark_production.auto.waits ∙ c.loop-p.invariant.0,
       λ start.
           let g : Grammar = record { start = start; productions = ps; rules = rules c.args.rules.now } in
-          gathers_more Nowhere (Marked c.loop-p.waits) (Marked c.mark-production.new.waits) c.loop-p.p (Row ps (WaitsFor g)) (c.loop-p.invariant.1 start)
-          (c.mark-production.ensures start),
+          gathers_more Nowhere (Marked c.loop-p.waits) (Marked c.mark_production.new.waits) c.loop-p.p (Row ps (WaitsFor g)) (c.loop-p.invariant.1 start)
+          (c.mark_production.ensures start),
     )
 
 pub returns : goal.returns

@@ -6,7 +6,7 @@ pub returns-in-Ok : goal.returns-in-Ok
 returns-in-Ok c =
     let ready = c.open-reading.ensures in
     judged_put c.args.grammar.now (words c.args.spellings.now) c.args.chart.now c.args.line.now _ _
-    (record { opened = ready.opened; grammar = ready.grammar }) _ _ c.in-Ok.ensures.put c.judge-words.ensures
+    (record { opened = ready.opened; grammar = ready.grammar }) _ _ c.in-Ok.ensures.put c.judge_words.ensures
 
 pub returns-in-Err : goal.returns-in-Err
 returns-in-Err c =

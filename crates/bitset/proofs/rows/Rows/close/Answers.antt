@@ -8,8 +8,8 @@ use Rattle.bitset.proofs.rows.Rows.close.Goals as goal
 
 pub loop-m-preserved : goal.loop-m-preserved
 loop-m-preserved c =
-    via_more (Holds c.args.self.now) (Holds c.loop-m.self) (Holds c.join-through.new.self) c.loop-m.m c.loop-m.invariant
-    c.join-through.ensures
+    via_more (Holds c.args.self.now) (Holds c.loop-m.self) (Holds c.join_through.new.self) c.loop-m.m c.loop-m.invariant
+    c.join_through.ensures
 
 pub returns : goal.returns
 returns c p q =

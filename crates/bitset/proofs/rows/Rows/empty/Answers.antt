@@ -4,8 +4,8 @@ use Rattle.bitset.proofs.Digits.{none_of_zero}
 use Rattle.bitset.proofs.Joining.{zeros}
 use Rattle.bitset.proofs.rows.Rows.empty.Goals as goal
 
-pub invariant-of-result : goal.invariant-of-result
-invariant-of-result c = (refl, (λ k. omega (arith, zeros 32 k), tt))
+pub invariant_of-result : goal.invariant_of-result
+invariant_of-result c = (refl, (λ k. omega (arith, zeros 32 k), tt))
 
 pub returns : goal.returns
 returns c = λ p q h. none_of_zero q (subst (λ n. Has n q) (zeros 32 p) h)

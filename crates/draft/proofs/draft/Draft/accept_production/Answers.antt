@@ -16,17 +16,17 @@ use Rattle.draft.proofs.draft.Draft.accept_production.Goals as goal
 pub bounds-productions-at : goal.bounds-productions-at
 bounds-productions-at c = free_place c.args.self.now c.args.p c.requires.room
 
-pub slice-bounds-leads-to-itself-end : goal.slice-bounds-leads-to-itself-end
-slice-bounds-leads-to-itself-end c = let h : c.args.self.now.count < 32 = free_place c.args.self.now c.args.p c.requires.room in search rules
+pub slice-bounds-leads_to_itself-end : goal.slice-bounds-leads_to_itself-end
+slice-bounds-leads_to_itself-end c = let h : c.args.self.now.count < 32 = free_place c.args.self.now c.args.p c.requires.room in search rules
 
-pub leads-to-itself-requires : goal.leads-to-itself-requires
-leads-to-itself-requires c = lefts c.args.self.now c.args.p c.requires.room c.requires.range
+pub leads_to_itself-requires : goal.leads_to_itself-requires
+leads_to_itself-requires c = lefts c.args.self.now c.args.p c.requires.room c.requires.range
 
-pub returns-then-leads-to-itself : goal.returns-then-leads-to-itself
-returns-then-leads-to-itself c =
+pub returns-then-leads_to_itself : goal.returns-then-leads_to_itself
+returns-then-leads_to_itself c =
     let d = c.args.self.now in
     let p = c.args.p in
-    let h = c.if-leads-to-itself.ensures.yes refl in (
+    let h = c.if-leads_to_itself.ensures.yes refl in (
       leads_to_itself (h.0, subst (λ (ps : List Production). LeadsOn ps h.0 h.0) (longer d p c.requires.room) h.1),
       production_none (model d) (production p) 5
           (record { range = λ _. c.requires.range; long = λ _. short p; room = λ _. c.requires.room; repeats = λ _. c.requires.fresh; loops = λ l. absurd (omega arith) }),
@@ -34,19 +34,19 @@ returns-then-leads-to-itself c =
     )
 
 -- with the production there is still no nonterminal that leads to itself
-loops_none : (c : goal.Else-leads-to-itself) → ¬ Loops (model c.args.self.now) (production c.args.p)
+loops_none : (c : goal.Else-leads_to_itself) → ¬ Loops (model c.args.self.now) (production c.args.p)
 loops_none c h =
-    subst Acyclic (longer c.args.self.now c.args.p c.requires.room) (c.if-leads-to-itself.ensures.no refl) h.0 h.1
+    subst Acyclic (longer c.args.self.now c.args.p c.requires.room) (c.if-leads_to_itself.ensures.no refl) h.0 h.1
 
-kept : (c : goal.Else-leads-to-itself) → WellFormed (grammar c.args.self.now.start (set c.args.self.now.productions c.args.self.now.count c.args.p) (c.args.self.now.count + 1) c.args.self.now.rules c.args.self.now.ruled)
+kept : (c : goal.Else-leads_to_itself) → WellFormed (grammar c.args.self.now.start (set c.args.self.now.productions c.args.self.now.count c.args.p) (c.args.self.now.count + 1) c.args.self.now.rules c.args.self.now.ruled)
 kept c =
     let d = c.args.self.now in
     let p = c.args.p in
     subst WellFormed (sym (grown d p c.requires.room))
     (production_kept (model d) (production p) (well_formed d) c.requires.range (short p) c.requires.room c.requires.fresh (loops_none c) p.priced)
 
-pub invariant-of-self : goal.invariant-of-self
-invariant-of-self c =
+pub invariant_of-self : goal.invariant_of-self
+invariant_of-self c =
     let d = c.args.self.now in
     let l = free_place d c.args.p c.requires.room in
     let w = kept c in (
@@ -72,7 +72,7 @@ returns c =
     let p = c.args.p in
     let l = free_place d p c.requires.room in
     let e = grown d p c.requires.room in
-    let none : ¬ Loops (model d) (production p) = λ h. subst Acyclic (longer d p c.requires.room) (c.if-leads-to-itself.ensures.no refl) h.0 h.1 in (
+    let none : ¬ Loops (model d) (production p) = λ h. subst Acyclic (longer d p c.requires.room) (c.if-leads_to_itself.ensures.no refl) h.0 h.1 in (
       λ n. production_none (model d) (production p) (suc n)
           (record { range = λ _. c.requires.range; long = λ _. short p; room = λ _. c.requires.room; repeats = λ _. c.requires.fresh; loops = λ _. none }) n (omega arith),
       (counted production (set d.productions d.count p) (d.count + 1) (omega (arith, length-set d.productions d.count p)), e),

@@ -15,18 +15,18 @@ use Rattle.draft.proofs.draft.Draft.accept_rule.Goals as goal
 pub bounds-rules-at : goal.bounds-rules-at
 bounds-rules-at c = free_rule c.args.self.now c.args.rule c.requires.upper c.requires.lower c.requires.room
 
-pub slice-bounds-above-itself-end : goal.slice-bounds-above-itself-end
-slice-bounds-above-itself-end c =
+pub slice-bounds-above_itself-end : goal.slice-bounds-above_itself-end
+slice-bounds-above_itself-end c =
     let h : c.args.self.now.ruled < 64 = free_rule c.args.self.now c.args.rule c.requires.upper c.requires.lower c.requires.room in search rules
 
-pub above-itself-requires : goal.above-itself-requires
-above-itself-requires c = between c.args.self.now c.args.rule c.requires.upper c.requires.lower c.requires.room
+pub above_itself-requires : goal.above_itself-requires
+above_itself-requires c = between c.args.self.now c.args.rule c.requires.upper c.requires.lower c.requires.room
 
-pub returns-then-above-itself : goal.returns-then-above-itself
-returns-then-above-itself c =
+pub returns-then-above_itself : goal.returns-then-above_itself
+returns-then-above_itself c =
     let d = c.args.self.now in
     let x = c.args.rule in
-    let h = c.if-above-itself.ensures.yes refl in (
+    let h = c.if-above_itself.ensures.yes refl in (
       above_itself (h.0, subst (λ (rs : List Rule). Above rs h.0 h.0) (longer_rules d x c.requires.upper c.requires.lower c.requires.room) h.1),
       rule_none (model d) x.upper x.relation x.lower 8
           (record {
@@ -39,19 +39,19 @@ returns-then-above-itself c =
     )
 
 -- with the rule there is still no production that has priority over itself
-above_none : (c : goal.Else-above-itself) → ¬ AboveItself (model c.args.self.now) (rule c.args.rule)
+above_none : (c : goal.Else-above_itself) → ¬ AboveItself (model c.args.self.now) (rule c.args.rule)
 above_none c h =
-    subst Ordered (longer_rules c.args.self.now c.args.rule c.requires.upper c.requires.lower c.requires.room) (c.if-above-itself.ensures.no refl) h.0 h.1
+    subst Ordered (longer_rules c.args.self.now c.args.rule c.requires.upper c.requires.lower c.requires.room) (c.if-above_itself.ensures.no refl) h.0 h.1
 
-kept : (c : goal.Else-above-itself) → WellFormed (grammar c.args.self.now.start c.args.self.now.productions c.args.self.now.count (set c.args.self.now.rules c.args.self.now.ruled c.args.rule) (c.args.self.now.ruled + 1))
+kept : (c : goal.Else-above_itself) → WellFormed (grammar c.args.self.now.start c.args.self.now.productions c.args.self.now.count (set c.args.self.now.rules c.args.self.now.ruled c.args.rule) (c.args.self.now.ruled + 1))
 kept c =
     let d = c.args.self.now in
     let x = c.args.rule in
     subst WellFormed (sym (grown_rules d x c.requires.upper c.requires.lower c.requires.room))
     (rule_kept (model d) x.upper x.relation x.lower (well_formed d) c.requires.upper c.requires.lower (λ full. let r = c.requires.room in omega arith) c.requires.fresh (above_none c))
 
-pub invariant-of-self : goal.invariant-of-self
-invariant-of-self c =
+pub invariant_of-self : goal.invariant_of-self
+invariant_of-self c =
     let d = c.args.self.now in
     let x = c.args.rule in
     let l = free_rule d x c.requires.upper c.requires.lower c.requires.room in
@@ -79,7 +79,7 @@ returns c =
     let l = free_rule d x c.requires.upper c.requires.lower c.requires.room in
     let e = grown_rules d x c.requires.upper c.requires.lower c.requires.room in
     let none : ¬ AboveItself (model d) (rule x) =
-    λ h. subst Ordered (longer_rules d x c.requires.upper c.requires.lower c.requires.room) (c.if-above-itself.ensures.no refl) h.0 h.1 in (
+    λ h. subst Ordered (longer_rules d x c.requires.upper c.requires.lower c.requires.room) (c.if-above_itself.ensures.no refl) h.0 h.1 in (
       λ n. rule_none (model d) x.upper x.relation x.lower (suc n)
           (record {
             repeats = λ _. c.requires.fresh;

@@ -18,6 +18,6 @@ returns c =
     let e = places_push (model d).productions (production p) in
     let l = ap length c.right.ensures in
     record {
-      yes = λ t out. ⊎_elim (λ h. omega (arith, n)) (λ h. omega (arith, e, l, leb-true _ _ t, c.place-count.ensures)) out;
-      no = λ t. inr (omega (arith, e, l, leb-false _ _ t, c.place-count.ensures));
+      yes = λ t out. ⊎_elim (λ h. omega (arith, n)) (λ h. omega (arith, e, l, leb-true _ _ t, c.place_count.ensures)) out;
+      no = λ t. inr (omega (arith, e, l, leb-false _ _ t, c.place_count.ensures));
     }

@@ -6,11 +6,11 @@ use Rattle.draft.specs.Stored.{SameRule}
 use Rattle.draft.proofs.Rules.{no_numbered, says_it, said_by}
 use Rattle.draft.proofs.draft.Draft.has_rule.Goals as goal
 
-pub returns-then-same-rule : goal.returns-then-same-rule
-returns-then-same-rule c =
+pub returns-then-same_rule : goal.returns-then-same_rule
+returns-then-same_rule c =
     let d = c.args.self.now in
     record {
-      yes = λ _. says_it d.rules d.ruled d.count (omega arith) d.numbers c.args.upper c.args.relation c.args.lower c.loop-i.i _ (omega arith) (c.if-same-rule.ensures.yes refl);
+      yes = λ _. says_it d.rules d.ruled d.count (omega arith) d.numbers c.args.upper c.args.relation c.args.lower c.loop-i.i _ (omega arith) (c.if-same_rule.ensures.yes refl);
       no = λ t. absurd (true≢false t);
     }
 
@@ -19,7 +19,7 @@ loop-i-preserved c =
     let d = c.args.self.now in
     let l : c.loop-i.i < length d.rules = omega arith in
     below_more _ _ c.loop-i.invariant
-    (λ x same. c.if-same-rule.ensures.no refl (subst (λ (r : Rule). SameRule r c.args.upper c.args.relation c.args.lower) (get_or_default d.rules c.loop-i.i x _ l) same))
+    (λ x same. c.if-same_rule.ensures.no refl (subst (λ (r : Rule). SameRule r c.args.upper c.args.relation c.args.lower) (get_or_default d.rules c.loop-i.i x _ l) same))
 
 pub returns : goal.returns
 returns c =

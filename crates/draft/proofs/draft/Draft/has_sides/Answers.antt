@@ -5,12 +5,12 @@ use Rattle.grammar.specs.Model.{production}
 use Rattle.draft.proofs.Tables.{counted, looked}
 use Rattle.draft.proofs.draft.Draft.has_sides.Goals as goal
 
-pub returns-then-same-sides : goal.returns-then-same-sides
-returns-then-same-sides c =
+pub returns-then-same_sides : goal.returns-then-same_sides
+returns-then-same_sides c =
     let d = c.args.self.now in
     let i = c.loop-i.i in
     let e = looked production d.productions d.count i c.index-self-i.result no_production (omega arith) (omega arith) in
-    let s = c.if-same-sides.ensures.yes refl in
+    let s = c.if-same_sides.ensures.yes refl in
     record {
       yes = λ _. (i, omega (arith, counted production d.productions d.count (omega arith)), sym (ap (λ (p : Production). p.left) e) ∙ s.0, sym (ap (λ (p : Production). p.right) e) ∙ s.1);
       no = λ t. absurd (true≢false t);
@@ -22,7 +22,7 @@ loop-i-preserved c =
     let i = c.loop-i.i in
     let e = looked production d.productions d.count i c.index-self-i.result no_production (omega arith) (omega arith) in
     below_more _ _ c.loop-i.invariant
-    (λ l r. c.if-same-sides.ensures.no refl (ap (λ (p : Production). p.left) e ∙ l) (ap (λ (p : Production). p.right) e ∙ r))
+    (λ l r. c.if-same_sides.ensures.no refl (ap (λ (p : Production). p.left) e ∙ l) (ap (λ (p : Production). p.right) e ∙ r))
 
 pub returns : goal.returns
 returns c =

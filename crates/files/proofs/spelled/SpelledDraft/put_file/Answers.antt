@@ -20,69 +20,69 @@ productions_of s = rendered (map (production_form s.spellings) s.draft.productio
 abbrev rules_of : Spelled → List ℕ
 rules_of s = rendered (map rule_form s.draft.rules)
 
-pub returns-then-not-is-spelled : goal.returns-then-not-is-spelled
-returns-then-not-is-spelled c = (c.is-spelled.ensures.no c.if-not-is-spelled.true, refl)
+pub returns-then-not-is_spelled : goal.returns-then-not-is_spelled
+returns-then-not-is_spelled c = (c.is_spelled.ensures.no c.if-not-is_spelled.true, refl)
 
-pub put-head-requires : goal.put-head-requires
-put-head-requires c = omega (arith, c.start.ensures, (well_formed c.args.self.now.draft).starts)
+pub put_head-requires : goal.put_head-requires
+put_head-requires c = omega (arith, c.start.ensures, (well_formed c.args.self.now.draft).starts)
 
-pub put-words-requires : goal.put-words-requires
-put-words-requires c = omega (arith, c.in-ok-words-at.ensures.2)
+pub put_words-requires : goal.put_words-requires
+put_words-requires c = omega (arith, c.in_ok-words_at.ensures.2)
 
-pub put-productions-requires : goal.put-productions-requires
-put-productions-requires c =
-    record { within = omega (arith, c.in-ok-productions-at.ensures.2); spelled = c.is-spelled.ensures.yes c.if-not-is-spelled.false }
+pub put_productions-requires : goal.put_productions-requires
+put_productions-requires c =
+    record { within = omega (arith, c.in_ok-productions_at.ensures.2); spelled = c.is_spelled.ensures.yes c.if-not-is_spelled.false }
 
-pub put-rules-requires : goal.put-rules-requires
-put-rules-requires c = omega (arith, c.in-ok-rules-at.ensures.2)
+pub put_rules-requires : goal.put_rules-requires
+put_rules-requires c = omega (arith, c.in_ok-rules_at.ensures.2)
 
-pub returns-in-err-words-at : goal.returns-in-err-words-at
-returns-in-err-words-at c =
+pub returns-in_err-words_at : goal.returns-in_err-words_at
+returns-in_err-words_at c =
     let s = model c.args.self.now in
     let start = c.start.result in
     let out = c.args.out.now in
-    writes_file s (c.is-spelled.ensures.yes c.if-not-is-spelled.false) out c.put-head.new.out c.from-residual.result
-    (first_stops out 0 (head start) (words_of s) (productions_of s ++ rules_of s) (text_of s) (text_bytes s start c.start.ensures) _ _ c.from-residual.ensures.1 _
-    c.in-err-words-at.ensures)
+    writes_file s (c.is_spelled.ensures.yes c.if-not-is_spelled.false) out c.put_head.new.out c.from_residual.result
+    (first_stops out 0 (head start) (words_of s) (productions_of s ++ rules_of s) (text_of s) (text_bytes s start c.start.ensures) _ _ c.from_residual.ensures.1 _
+    c.in_err-words_at.ensures)
 
-pub returns-in-err-productions-at : goal.returns-in-err-productions-at
-returns-in-err-productions-at c =
+pub returns-in_err-productions_at : goal.returns-in_err-productions_at
+returns-in_err-productions_at c =
     let s = model c.args.self.now in
     let start = c.start.result in
     let out = c.args.out.now in
-    writes_file s (c.is-spelled.ensures.yes c.if-not-is-spelled.false) out c.put-words.new.out c.from-residual-in-err-productions-at.result
+    writes_file s (c.is_spelled.ensures.yes c.if-not-is_spelled.false) out c.put_words.new.out c.from_residual-in_err-productions_at.result
     (second_stops out 0 (head start) (words_of s) (productions_of s ++ rules_of s) (text_of s) (text_bytes s start c.start.ensures) _ _
-    c.from-residual-in-err-productions-at.ensures.1 c.put-head.new.out _ c.in-ok-words-at.words-at
-    c.in-ok-words-at.ensures
-    c.in-err-productions-at.ensures)
+    c.from_residual-in_err-productions_at.ensures.1 c.put_head.new.out _ c.in_ok-words_at.words_at
+    c.in_ok-words_at.ensures
+    c.in_err-productions_at.ensures)
 
-pub returns-in-err-rules-at : goal.returns-in-err-rules-at
-returns-in-err-rules-at c =
+pub returns-in_err-rules_at : goal.returns-in_err-rules_at
+returns-in_err-rules_at c =
     let s = model c.args.self.now in
     let start = c.start.result in
     let out = c.args.out.now in
-    let first = c.put-head.new.out in
-    let at = c.in-ok-words-at.words-at in
-    let r = c.from-residual-in-err-rules-at.result in
-    writes_file s (c.is-spelled.ensures.yes c.if-not-is-spelled.false) out c.put-productions.new.out r
-    (writes_on out first c.put-productions.new.out 0 at (head start) (words_of s ++ (productions_of s ++ rules_of s)) (text_of s) r (text_bytes s start c.start.ensures)
-    c.in-ok-words-at.ensures
-    (second_stops first at (words_of s) (productions_of s) (rules_of s) _ refl _ _ c.from-residual-in-err-rules-at.ensures.1 c.put-words.new.out _ c.in-ok-productions-at.productions-at
-    c.in-ok-productions-at.ensures
-    c.in-err-rules-at.ensures))
+    let first = c.put_head.new.out in
+    let at = c.in_ok-words_at.words_at in
+    let r = c.from_residual-in_err-rules_at.result in
+    writes_file s (c.is_spelled.ensures.yes c.if-not-is_spelled.false) out c.put_productions.new.out r
+    (writes_on out first c.put_productions.new.out 0 at (head start) (words_of s ++ (productions_of s ++ rules_of s)) (text_of s) r (text_bytes s start c.start.ensures)
+    c.in_ok-words_at.ensures
+    (second_stops first at (words_of s) (productions_of s) (rules_of s) _ refl _ _ c.from_residual-in_err-rules_at.ensures.1 c.put_words.new.out _ c.in_ok-productions_at.productions_at
+    c.in_ok-productions_at.ensures
+    c.in_err-rules_at.ensures))
 
 pub returns : goal.returns
 returns c =
     let s = model c.args.self.now in
     let start = c.start.result in
     let out = c.args.out.now in
-    let first = c.put-head.new.out in
-    let at = c.in-ok-words-at.words-at in
-    let r = c.put-rules.result in
-    writes_file s (c.is-spelled.ensures.yes c.if-not-is-spelled.false) out c.put-rules.new.out r
-    (writes_on out first c.put-rules.new.out 0 at (head start) (words_of s ++ (productions_of s ++ rules_of s)) (text_of s) r (text_bytes s start c.start.ensures)
-    c.in-ok-words-at.ensures
-    (all_three first at (words_of s) (productions_of s) (rules_of s) _ refl r c.put-words.new.out c.put-productions.new.out _ c.in-ok-productions-at.productions-at c.in-ok-rules-at.rules-at
-    c.in-ok-productions-at.ensures
-    c.in-ok-rules-at.ensures
-    c.put-rules.ensures))
+    let first = c.put_head.new.out in
+    let at = c.in_ok-words_at.words_at in
+    let r = c.put_rules.result in
+    writes_file s (c.is_spelled.ensures.yes c.if-not-is_spelled.false) out c.put_rules.new.out r
+    (writes_on out first c.put_rules.new.out 0 at (head start) (words_of s ++ (productions_of s ++ rules_of s)) (text_of s) r (text_bytes s start c.start.ensures)
+    c.in_ok-words_at.ensures
+    (all_three first at (words_of s) (productions_of s) (rules_of s) _ refl r c.put_words.new.out c.put_productions.new.out _ c.in_ok-productions_at.productions_at c.in_ok-rules_at.rules_at
+    c.in_ok-productions_at.ensures
+    c.in_ok-rules_at.ensures
+    c.put_rules.ensures))

@@ -12,26 +12,26 @@ use Rattle.files.proofs.spelled.SpelledDraft.read.Goals as goal
 pub returns-then-text-gt16384 : goal.returns-then-text-gt16384
 returns-then-text-gt16384 c = rw c.new.ensures (too_long c.if-text-gt16384.true)
 
-pub returns-in-default : goal.returns-in-default
-returns-in-default c = rw c.new.ensures (no_mark c.if-text-gt16384.false c.in-default.ensures)
+pub returns-in_default : goal.returns-in_default
+returns-in_default c = rw c.new.ensures (no_mark c.if-text-gt16384.false c.in_default.ensures)
 
-pub returns-in-default-read-start : goal.returns-in-default-read-start
-returns-in-default-read-start c = rw c.new.ensures (no_start c.if-text-gt16384.false c.in-Some.ensures c.in-default-read-start.ensures)
+pub returns-in_default-read_start : goal.returns-in_default-read_start
+returns-in_default-read_start c = rw c.new.ensures (no_start c.if-text-gt16384.false c.in-Some.ensures c.in_default-read_start.ensures)
 
-pub read-lines-requires : goal.read-lines-requires
-read-lines-requires c =
+pub read_lines-requires : goal.read_lines-requires
+read_lines-requires c =
     let a = rest_short c.in-Some.ensures in
-    let b = rest_short c.in-Some-read-start.ensures.1 in
+    let b = rest_short c.in-Some-read_start.ensures.1 in
     omega arith
 
 pub returns : goal.returns
 returns c =
-    let s = c.in-Some-read-start.symbol in
+    let s = c.in-Some-read_start.symbol in
     let new = c.new.ensures in
-    let start : grammar_of c.set-start.new.self ≡ with_start (grammar_of c.new.result.draft) s =
-    start_taken (grammar_of c.new.result.draft) s c.set-start.result (grammar_of c.set-start.new.self) c.in-Some-read-start.ensures.0 c.set-start.ensures in
-    let from : ◌≡◌ {A = Spelled} (record { draft = grammar_of c.set-start.new.self; spellings = words c.new.result.spellings }) (started s) =
+    let start : grammar_of c.set_start.new.self ≡ with_start (grammar_of c.new.result.draft) s =
+    start_taken (grammar_of c.new.result.draft) s c.set_start.result (grammar_of c.set_start.new.self) c.in-Some-read_start.ensures.0 c.set_start.ensures in
+    let from : ◌≡◌ {A = Spelled} (record { draft = grammar_of c.set_start.new.self; spellings = words c.new.result.spellings }) (started s) =
     ap (λ (g : Grammar). record { draft = g; spellings = words c.new.result.spellings }) start
     ∙ ap (λ (x : Spelled). record { draft = with_start x.draft s; spellings = x.spellings }) new in
-    from_start c.if-text-gt16384.false c.in-Some.ensures c.in-Some-read-start.ensures.0 c.in-Some-read-start.ensures.1
-    (subst (λ (x : Spelled). ReadsFrom 3 x c.in-Some-read-start.body.now c.read-lines.result (model c.read-lines.new.self)) from c.read-lines.ensures)
+    from_start c.if-text-gt16384.false c.in-Some.ensures c.in-Some-read_start.ensures.0 c.in-Some-read_start.ensures.1
+    (subst (λ (x : Spelled). ReadsFrom 3 x c.in-Some-read_start.body.now c.read_lines.result (model c.read_lines.new.self)) from c.read_lines.ensures)

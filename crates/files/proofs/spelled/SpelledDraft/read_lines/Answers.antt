@@ -8,10 +8,10 @@ use Rattle.files.proofs.spelled.SpelledDraft.read_lines.Goals as goal
 pub loop-at-init : goal.loop-at-init
 loop-at-init c = (omega arith, omega arith, λ r t h. h)
 
-pub returns-in-default : goal.returns-in-default
-returns-in-default c =
+pub returns-in_default : goal.returns-in_default
+returns-in_default c =
     let text = c.args.text.now in
-    c.loop-at.invariant.2 _ _ (reads_cut (some_left text c.loop-at.at c.loop-at-test.true) (none_from text c.loop-at.at c.in-default.ensures))
+    c.loop-at.invariant.2 _ _ (reads_cut (some_left text c.loop-at.at c.loop-at-test.true) (none_from text c.loop-at.at c.in_default.ensures))
 
 pub returns-in-Err : goal.returns-in-Err
 returns-in-Err c =
@@ -27,8 +27,8 @@ loop-at-preserved c =
       omega (arith, inv.1),
       λ r t h.
           inv.2 r t
-          (reads_on (line_at c.args.text.now c.loop-at.at c.in-Some.end e.1 e.0) c.in-default-read-line.ensures
-          (subst (λ (n : ℕ). ReadsFrom n (model c.read-line.new.self) (drop (c.in-Some.end + 1) c.args.text.now) r t) (add-one c.loop-at.line) h)),
+          (reads_on (line_at c.args.text.now c.loop-at.at c.in-Some.end e.1 e.0) c.in_default-read_line.ensures
+          (subst (λ (n : ℕ). ReadsFrom n (model c.read_line.new.self) (drop (c.in-Some.end + 1) c.args.text.now) r t) (add-one c.loop-at.line) h)),
     )
 
 pub returns : goal.returns

@@ -4,8 +4,8 @@ use Rattle.files.specs.Reading.{IsRule, as_form, as_none}
 use Rattle.files.proofs.LineForms.{rule_part}
 use Rattle.files.proofs.spelled.SpelledDraft.read_rule_line.Goals as goal
 
-pub returns-in-default : goal.returns-in-default
-returns-in-default c = as_none (λ f k h. let p = rule_part c.args.line.now f k h in c.in-default.ensures p.0 p.1 p.2 p.3) refl refl
+pub returns-in_default : goal.returns-in_default
+returns-in_default c = as_none (λ f k h. let p = rule_part c.args.line.now f k h in c.in_default.ensures p.0 p.1 p.2 p.3) refl refl
 
 pub returns-in-Ok : goal.returns-in-Ok
 returns-in-Ok c = as_form (rule_line c.in-Some.upper c.in-Some.relation c.in-Some.lower) tt c.in-Some.ensures (Ok c.in-Ok.field-0, c.in-Ok.ensures, refl, refl)

@@ -6,8 +6,8 @@ use Rattle.files.specs.Reading.{as_form, as_none}
 use Rattle.files.proofs.LineForms.{word_part}
 use Rattle.files.proofs.spelled.SpelledDraft.read_word.Goals as goal
 
-pub returns-in-default : goal.returns-in-default
-returns-in-default c = as_none (λ f k h. let p = word_part c.args.part.now f k h in c.in-default.ensures p.0 p.1 p.2) refl refl
+pub returns-in_default : goal.returns-in_default
+returns-in_default c = as_none (λ f k h. let p = word_part c.args.part.now f k h in c.in_default.ensures p.0 p.1 p.2) refl refl
 
 pub returns-in-Ok : goal.returns-in-Ok
 returns-in-Ok c =

@@ -8,6 +8,6 @@ pub returns : goal.returns
 returns c =
     let s = c.args.self.now in
     record {
-      written = c.put-file.ensures;
-      back = writes_back (model s) (record { draft = well_formed s.draft; spellings = sound_spellings s.spellings }) c.args.out.now c.put-file.result c.put-file.new.out c.put-file.ensures;
+      written = c.put_file.ensures;
+      back = writes_back (model s) (record { draft = well_formed s.draft; spellings = sound_spellings s.spellings }) c.args.out.now c.put_file.result c.put_file.new.out c.put_file.ensures;
     }

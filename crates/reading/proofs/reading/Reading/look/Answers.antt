@@ -31,7 +31,7 @@ returns c =
             (λ t. c.accepts-sentence.ensures.yes t (grammar_of r) (words r) (means_at r.grammar.now _ c.tables-tables.ensures) n (charted_at r.grammar.now _ c.tables-tables.ensures m))
             (λ t. c.accepts-sentence.ensures.no t (grammar_of r) (words r) (means_at r.grammar.now _ c.tables-tables.ensures) n (charted_at r.grammar.now _ c.tables-tables.ensures m));
         next = λ b l.
-            let e = c.expected-kinds-kinds.ensures (grammar_of r) (words r) (means_at r.grammar.now _ c.tables-tables.ensures) n (charted_at r.grammar.now _ c.tables-tables.ensures m) b l in
+            let e = c.expected_kinds-kinds.ensures (grammar_of r) (words r) (means_at r.grammar.now _ c.tables-tables.ensures) n (charted_at r.grammar.now _ c.tables-tables.ensures m) b l in
             let v = viable_kinds (grammar_of r) (words r) (16 + b) (omega arith, omega arith) in
             (λ h. (omega (arith, n), v.0 (e.0 h)), λ h. e.1 (v.1 h.1));
       },

@@ -4,7 +4,7 @@ use Rattle.draft.specs.Sealed.{sealed_model}
 use Rattle.reading.specs.Readings.{Long}
 use Rattle.reading.proofs.Sealed.{means_at, charted_back}
 use Rattle.reading.proofs.reading.Reading.open.Goals as goal
-use Rattle.reading.proofs.reading.Reading.open.Goals.{then-chart-fits, else-chart-fits}
+use Rattle.reading.proofs.reading.Reading.open.Goals.{then-chart_fits, else-chart_fits}
 
 pub returns : goal.returns
 returns c =
@@ -12,23 +12,23 @@ returns c =
     record {
       opened = record {
         none = refl;
-        size = c.if-chart-fits.auto.chart;
+        size = c.if-chart_fits.auto.chart;
         marks = λ l.
-            elim c.if-chart-fits.branch [
-              | then-chart-fits w ↦
+            elim c.if-chart_fits.branch [
+              | then-chart_fits w ↦
                   subst (Charted g.tables (sealed_model g) []) (sym w.chart-is)
-                  (charted_back g _ w.tables.ensures (w.open-chart.ensures.charted (sealed_model g) (means_at g _ w.tables.ensures)))
-              | else-chart-fits w ↦ absurd (c.chart-fits.ensures.no w.if-chart-fits.false l)
+                  (charted_back g _ w.tables.ensures (w.open_chart.ensures.charted (sealed_model g) (means_at g _ w.tables.ensures)))
+              | else-chart_fits w ↦ absurd (c.chart_fits.ensures.no w.if-chart_fits.false l)
             ];
         short = λ n.
-            elim c.if-chart-fits.branch [
-              | then-chart-fits w ↦ absurd (n (c.chart-fits.ensures.yes w.if-chart-fits.true))
-              | else-chart-fits w ↦ w.chart-is
+            elim c.if-chart_fits.branch [
+              | then-chart_fits w ↦ absurd (n (c.chart_fits.ensures.yes w.if-chart_fits.true))
+              | else-chart_fits w ↦ w.chart-is
             ];
         rest =
-            elim c.if-chart-fits.branch [
-              | then-chart-fits w ↦ subst (RestKept c.args.chart.now) (sym w.chart-is) w.open-chart.ensures.rest
-              | else-chart-fits w ↦ λ k l. ap (λ (x : List ℕ). get_or x k 0) w.chart-is
+            elim c.if-chart_fits.branch [
+              | then-chart_fits w ↦ subst (RestKept c.args.chart.now) (sym w.chart-is) w.open_chart.ensures.rest
+              | else-chart_fits w ↦ λ k l. ap (λ (x : List ℕ). get_or x k 0) w.chart-is
             ];
       };
       grammar = refl;

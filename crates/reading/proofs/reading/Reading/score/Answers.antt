@@ -16,11 +16,11 @@ returns-then-self-lt4802 g c =
     let none = score_none r (length c.args.table.now) 14 (λ l. absurd (omega arith)) (λ l. absurd (omega arith)) in
     record { scored = (cause, none, refl); refused = (cause, none) }
 
-pub returns-then-table-place-count : goal.returns-then-table-place-count
-returns-then-table-place-count g c =
+pub returns-then-table-place_count : goal.returns-then-table-place_count
+returns-then-table-place_count g c =
     let r = c.args.self.now in
-    let e = entries_at r _ c.draft-draft.ensures _ c.place-count.ensures _ c.words-words.ensures in
-    let cause : ScoreCause r (length c.args.table.now) 16 = table_too_short (omega (arith, e, c.if-table-place-count.true)) in
+    let e = entries_at r _ c.draft-draft.ensures _ c.place_count.ensures _ c.words-words.ensures in
+    let cause : ScoreCause r (length c.args.table.now) 16 = table_too_short (omega (arith, e, c.if-table-place_count.true)) in
     let none = score_none r (length c.args.table.now) 16 (λ l. omega arith) (λ l. absurd (omega arith)) in
     record { scored = (cause, none, refl); refused = (cause, none) }
 
@@ -37,15 +37,15 @@ score-requires g c =
       small = small given _ c.draft-draft.ensures _ c.productions-productions.ensures _ c.tables-tables.ensures;
       lefts = lefts given _ c.draft-draft.ensures _ c.productions-productions.ensures _ c.tables-tables.ensures;
       firsts = firsts given _ c.draft-draft.ensures _ c.productions-productions.ensures _ c.tables-tables.ensures;
-      room = room_at c.place-count.result _ (length c.words-words.result.now) (length c.args.table.now) (c.place-count.ensures ∙ ap places (sym c.productions-productions.ensures)) c.if-table-place-count.false;
+      room = room_at c.place_count.result _ (length c.words-words.result.now) (length c.args.table.now) (c.place_count.ensures ∙ ap places (sym c.productions-productions.ensures)) c.if-table-place_count.false;
     }
 
 pub returns : goal.returns
 returns g c =
     let r = c.args.self.now in
     let given = r.grammar.now in
-    let e = entries_at r _ c.draft-draft.ensures _ c.place-count.ensures _ c.words-words.ensures in
-    let none = score_possible r (length c.args.table.now) (omega arith) (omega (arith, e, c.if-table-place-count.false)) in
+    let e = entries_at r _ c.draft-draft.ensures _ c.place_count.ensures _ c.words-words.ensures in
+    let none = score_possible r (length c.args.table.now) (omega arith) (omega (arith, e, c.if-table-place_count.false)) in
     record {
       scored = (
         none,

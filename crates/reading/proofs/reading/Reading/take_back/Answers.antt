@@ -28,14 +28,14 @@ returns c =
     let fewer = length-take-le (k - 1) r.line.words (omega arith) in
     let split : words r ≡ take (k - 1) r.line.words ++ get_or r.line.words (k - 1) 0 ∷ [] = ap (λ m. take m r.line.words) one ∙ take_more r.line.words (k - 1) 0 (omega arith) in
     record {
-      kept = record { grammar = refl; lent = refl; size = c.take-back.auto.cells; rest = c.take-back.ensures.rest };
+      kept = record { grammar = refl; lent = refl; size = c.take_back.auto.cells; rest = c.take_back.ensures.rest };
       short = λ h. absurd (h (omega arith));
       answered = λ _ _. (
         λ x. back_none (words r) (suc x) (λ _ h. omega (arith, n, ap length h)) x (omega arith),
         (sym fewer, (get_or r.line.words (k - 1) 0, split)),
       );
       marks = λ _ m.
-          c.take-back.ensures.charted (tables_of r) (grammar_of r) (take (k - 1) r.line.words) (get_or r.line.words (k - 1) 0) (means r.grammar.now) (omega (arith, fewer))
+          c.take_back.ensures.charted (tables_of r) (grammar_of r) (take (k - 1) r.line.words) (get_or r.line.words (k - 1) 0) (means r.grammar.now) (omega (arith, fewer))
           (subst (λ (ws : List ℕ). Charted (tables_of r) (grammar_of r) ws (cells r)) split m);
       refused = λ x. absurd x;
     }

@@ -17,15 +17,15 @@ returns-in-Some c =
     let f = c.in-Some.ensures in
     (declared_before (f.0, f.1), none_below (words s) (spelling c.args.word), refl)
 
-pub invariant-of-self : goal.invariant-of-self
-invariant-of-self c =
+pub invariant_of-self : goal.invariant_of-self
+invariant_of-self c =
     let s = c.args.self.now in
-    (simp length-set s.room, (omega arith, (distinct_more s.words s.count (omega arith) s.once c.args.word (omega arith) c.in-default.ensures, tt)))
+    (simp length-set s.room, (omega arith, (distinct_more s.words s.count (omega arith) s.once c.args.word (omega arith) c.in_default.ensures, tt)))
 
 pub returns : goal.returns
 returns c =
     let s = c.args.self.now in
     let n = counted spelling s.words s.count (omega arith) in (
-      none_at_all (words s) (spelling c.args.word) c.in-default.ensures (omega (arith, n)),
+      none_at_all (words s) (spelling c.args.word) c.in_default.ensures (omega (arith, n)),
       (ap (λ k. 16 + k) n, pushed spelling s.words s.count c.args.word (omega arith)),
     )

@@ -11,7 +11,7 @@ loop-i-preserved c =
     let lr : i < length s = omega arith in (
       simp length-set c.loop-i.invariant.0,
       take_more_set c.loop-i.copy i _ lo ∙ ap (λ t. t ++ get_or s i 0 ∷ []) c.loop-i.invariant.1 ∙ sym (take_more s i 0 lr),
-      below_more _ _ c.loop-i.invariant.2 (c.may-stand.ensures.yes c.if-not-may-stand.false),
+      below_more _ _ c.loop-i.invariant.2 (c.may_stand.ensures.yes c.if-not-may_stand.false),
     )
 
 filled : (copy s : List ℕ) (i : ℕ) → i ≡ length s → take i copy ≡ take i s → take (length s) copy ≡ s
@@ -27,8 +27,8 @@ plain_copy :
 plain_copy copy s same plain k h =
     subst (λ (b : ℕ). LiteralByte b) (ap (λ l. get_or l k 0) (sym same) ∙ get_or-take (length s) copy k 0 h) (plain k h)
 
-pub invariant-of-result : goal.invariant-of-result
-invariant-of-result c =
+pub invariant_of-result : goal.invariant_of-result
+invariant_of-result c =
     let s = c.args.bytes.now in
     let inv = c.loop-i.invariant in
     let same = filled c.loop-i.copy s c.loop-i.i (omega arith) inv.1 in

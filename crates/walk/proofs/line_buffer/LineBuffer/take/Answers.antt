@@ -7,14 +7,14 @@ use Rattle.walk.proofs.line_buffer.LineBuffer.take.Goals as goal
 pub loop-i-init : goal.loop-i-init
 loop-i-init c = let b = c.args.self.now in (kept_none 16385 b.bytes b.count b.few b.room, λ k l e. absurd (omega arith))
 
-pub returns-then-part-i-eq-LINE-FEED : goal.returns-then-part-i-eq-LINE-FEED
-returns-then-part-i-eq-LINE-FEED c =
+pub returns-then-part-i-eq-LINE_FEED : goal.returns-then-part-i-eq-LINE_FEED
+returns-then-part-i-eq-LINE_FEED c =
     let part = c.args.part.now in
     let i = c.loop-i.i in
     let inside = c.loop-i-test.true in (
       take i part,
       drop (i + 1) part,
-      line_at part i inside c.loop-i.invariant.1 c.if-part-i-eq-LINE-FEED.true,
+      line_at part i inside c.loop-i.invariant.1 c.if-part-i-eq-LINE_FEED.true,
       ap (λ n. n + 1) (sym (length-take-le i part (omega arith))),
       c.loop-i.invariant.0,
     )
@@ -24,7 +24,7 @@ loop-i-preserved c =
     let part = c.args.part.now in
     let i = c.loop-i.i in (
       kept_next 16385 (held c.loop-i.self) (held c.args.self.now) _ part i 0 c.loop-i-test.true c.loop-i.invariant.0 c.push.ensures,
-      free_more 10 part i c.loop-i.invariant.1 c.if-part-i-eq-LINE-FEED.false,
+      free_more 10 part i c.loop-i.invariant.1 c.if-part-i-eq-LINE_FEED.false,
     )
 
 pub returns : goal.returns

@@ -16,9 +16,9 @@ pub loop-taken-preserved : goal.loop-taken-preserved
 loop-taken-preserved g c v h =
     c.loop-taken.invariant v
     (took_line c.loop-taken.self _ c.loop-taken.rest.now (record { grammar = refl; spellings = refl; chart = refl; count = refl }) _ v _
-    c.in-Some.taken c.in-Some.ensures c.end-line-report.ensures h)
+    c.in-Some.taken c.in-Some.ensures c.end_line-report.ensures h)
 
 pub returns : goal.returns
 returns g c =
     c.loop-taken.invariant _
-    (took_rest c.loop-taken.self _ c.loop-taken.rest.now (record { grammar = refl; spellings = refl; chart = refl; count = refl }) c.in-default.ensures)
+    (took_rest c.loop-taken.self _ c.loop-taken.rest.now (record { grammar = refl; spellings = refl; chart = refl; count = refl }) c.in_default.ensures)
