@@ -10,8 +10,8 @@ size : (c : goal.After-right) → length c.right.result.now ≡ length (right_at
 size c =
     ap length (right_is c.args.productions.now c.loop-p.p-index c.p-item.result c.loop-p-test.true c.p-item.is _ c.right.ensures)
 
-pub overflow-add-count-in-loop-p : goal.overflow-add-count-in-loop-p
-overflow-add-count-in-loop-p c =
+pub overflow_add-count-in-loop-p : goal.overflow_add-count-in-loop-p
+overflow_add-count-in-loop-p c =
     let ps = c.args.productions.now in
     omega (arith, last_low (productions ps) c.loop-p.p-index (known_at ps c.loop-p.p-index c.loop-p-test.true), c.requires, c.loop-p.invariant, size c)
 

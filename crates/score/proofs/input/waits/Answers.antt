@@ -19,8 +19,8 @@ returns c =
       no = λ e h. eqb-false _ 1 e (one ∙ subst (λ z. Waits t q z) (sym at) h);
     }
 
-pub overflow-add-place : goal.overflow-add-place
-overflow-add-place c =
+pub overflow_add-place : goal.overflow_add-place
+overflow_add-place c =
     omega (arith, first_low c.args.input.now c.requires.fit c.args.p c.args.k c.requires.parent c.requires.position)
 
 pub bounds-input-q : goal.bounds-input-q
@@ -31,11 +31,11 @@ bounds-input-q c =
 pub bounds-input-p : goal.bounds-input-p
 bounds-input-p c = omega (arith, c.requires.parent, c.requires.fit.few)
 
-pub overflow-mul-result : goal.overflow-mul-result
-overflow-mul-result c = omega (arith, c.requires.child, c.requires.fit.few)
+pub overflow_mul-result : goal.overflow_mul-result
+overflow_mul-result c = omega (arith, c.requires.child, c.requires.fit.few)
 
-pub overflow-add-result : goal.overflow-add-result
-overflow-add-result c =
+pub overflow_add-result : goal.overflow_add-result
+overflow_add-result c =
     let a = first_low c.args.input.now c.requires.fit c.args.p c.args.k c.requires.parent c.requires.position in
     omega (arith, c.requires.child, c.requires.fit.few)
 

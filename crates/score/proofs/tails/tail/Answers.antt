@@ -29,8 +29,8 @@ not_in set xs i t' l has e = (
   λ k all. ⊎_elim (λ (s : k < t'). absurd (has (all i (get_or xs i 0) (omega arith) (l, refl)))) (λ (s : t' ≤ k). s) (cases_lt k t'),
 )
 
-pub overflow-cast-result : goal.overflow-cast-result
-overflow-cast-result c = omega (arith, c.requires, c.loop-k.invariant.0, c.loop-k-test.false)
+pub overflow_cast-result : goal.overflow_cast-result
+overflow_cast-result c = omega (arith, c.requires, c.loop-k.invariant.0, c.loop-k-test.false)
 
 pub loop-k-preserved : goal.loop-k-preserved
 loop-k-preserved c = elim c.if-not-contains.branch [

@@ -37,11 +37,11 @@ loop-end-preserved c =
 found : (c : goal.After-loop-end) → SemicolonAt c.args.text.now c.loop-end.at
 found c = semicolon_part c.args.text.now c.loop-end.at (c.loop-end-test.ensures.yes refl)
 
-pub slice-bounds-read_number-count : goal.slice-bounds-read_number-count
-slice-bounds-read_number-count c = let i = c.loop-end.invariant in room_behind c.args.text.now c.loop-end.at i.0 i.1 (found c)
+pub slice_bounds-read_number-count : goal.slice_bounds-read_number-count
+slice_bounds-read_number-count c = let i = c.loop-end.invariant in room_behind c.args.text.now c.loop-end.at i.0 i.1 (found c)
 
-pub slice-bounds-read_number-start : goal.slice-bounds-read_number-start
-slice-bounds-read_number-start c =
+pub slice_bounds-read_number-start : goal.slice_bounds-read_number-start
+slice_bounds-read_number-start c =
     let i = c.loop-end.invariant in
     let h : c.loop-end.at + 2 ≤ length c.args.text.now = room_behind c.args.text.now c.loop-end.at i.0 i.1 (found c) in search rules
 

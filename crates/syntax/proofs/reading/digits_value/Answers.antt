@@ -3,11 +3,11 @@ use Rattle.std.proofs.lemmas.Str.Parse.{digit_at}
 use Rattle.syntax.proofs.Numbers.{front_small, digits_step}
 use Rattle.syntax.proofs.reading.digits_value.Goals as goal
 
-pub overflow-mul-n : goal.overflow-mul-n
-overflow-mul-n c = omega (arith, front_small c.args.digits.now c.loop-byte.byte-index c.requires c.loop-byte.invariant.0)
+pub overflow_mul-n : goal.overflow_mul-n
+overflow_mul-n c = omega (arith, front_small c.args.digits.now c.loop-byte.byte-index c.requires c.loop-byte.invariant.0)
 
-pub overflow-add-n : goal.overflow-add-n
-overflow-add-n c =
+pub overflow_add-n : goal.overflow_add-n
+overflow_add-n c =
     let i = c.loop-byte.byte-index in
     omega (arith, front_small c.args.digits.now i c.requires c.loop-byte.invariant.0, c.type-inv.digits i)
 

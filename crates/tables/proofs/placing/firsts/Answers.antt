@@ -7,8 +7,8 @@ use Rattle.tables.specs.Places.{first_place}
 use Rattle.tables.proofs.Counting.{set_more, place_next, last_low, right_is, known_at, stored_at}
 use Rattle.tables.proofs.placing.firsts.Goals as goal
 
-pub overflow-cast-first : goal.overflow-cast-first
-overflow-cast-first c =
+pub overflow_cast-first : goal.overflow_cast-first
+overflow_cast-first c =
     let ps = c.args.productions.now in
     omega (arith, last_low (productions ps) c.loop-i.i (known_at ps c.loop-i.i c.loop-i-test.true), c.requires.small, c.loop-i.invariant.1)
 
@@ -17,8 +17,8 @@ size : (c : goal.After-right) → length c.right.result.now ≡ length (right_at
 size c =
     ap length (right_is c.args.productions.now c.loop-i.i c.index-productions-i.result c.loop-i-test.true c.index-productions-i.is _ c.right.ensures)
 
-pub overflow-add-place-in-loop-i : goal.overflow-add-place-in-loop-i
-overflow-add-place-in-loop-i c =
+pub overflow_add-place-in-loop-i : goal.overflow_add-place-in-loop-i
+overflow_add-place-in-loop-i c =
     let ps = c.args.productions.now in
     omega (arith, last_low (productions ps) c.loop-i.i (known_at ps c.loop-i.i c.loop-i-test.true), c.requires.small, c.loop-i.invariant.1, size c)
 

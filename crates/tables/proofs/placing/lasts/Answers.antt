@@ -14,8 +14,8 @@ place c =
     let size = ap length (right_is ps i c.index-productions-i.result l c.index-productions-i.is _ c.right.ensures) in
     omega (arith, c.requires.begins i (known_at ps i l), size)
 
-pub overflow-add-last : goal.overflow-add-last
-overflow-add-last c =
+pub overflow_add-last : goal.overflow_add-last
+overflow_add-last c =
     let ps = c.args.productions.now in
     omega (arith, place c, last_low (productions ps) c.loop-i.i (known_at ps c.loop-i.i c.loop-i-test.true), c.requires.small)
 

@@ -7,8 +7,8 @@ use Rattle.tables.proofs.ranking.rank.Goals.{then-has, else-has}
 pub loop-other-init : goal.loop-other-init
 loop-other-init c = sym (count_none (row_of c.args.rows.now c.args.symbol))
 
-pub overflow-add-count : goal.overflow-add-count
-overflow-add-count c = omega (arith, count_small (row_of c.args.rows.now c.args.symbol) c.loop-other.other, c.loop-other.invariant)
+pub overflow_add-count : goal.overflow_add-count
+overflow_add-count c = omega (arith, count_small (row_of c.args.rows.now c.args.symbol) c.loop-other.other, c.loop-other.invariant)
 
 pub loop-other-preserved : goal.loop-other-preserved
 loop-other-preserved c =

@@ -24,8 +24,8 @@ admitted-requires c =
     }
 
 -- the place of position k
-pub overflow-add-first : goal.overflow-add-first
-overflow-add-first c =
+pub overflow_add-first : goal.overflow_add-first
+overflow_add-first c =
     let ps = c.args.productions.now in
     let size = ap length (right_is ps c.args.p c.index-productions-p.result c.requires.parent c.index-productions-p.is _ c.right-k-end.ensures) in
     omega (arith, last_low (productions ps) c.args.p (known_at ps c.args.p c.requires.parent), c.requires.small, c.requires.place, size, c.loop-k-test.true)

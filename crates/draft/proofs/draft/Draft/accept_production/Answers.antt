@@ -16,8 +16,8 @@ use Rattle.draft.proofs.draft.Draft.accept_production.Goals as goal
 pub bounds-productions-at : goal.bounds-productions-at
 bounds-productions-at c = free_place c.args.self.now c.args.p c.requires.room
 
-pub slice-bounds-leads_to_itself-end : goal.slice-bounds-leads_to_itself-end
-slice-bounds-leads_to_itself-end c = let h : c.args.self.now.count < 32 = free_place c.args.self.now c.args.p c.requires.room in search rules
+pub slice_bounds-leads_to_itself-end : goal.slice_bounds-leads_to_itself-end
+slice_bounds-leads_to_itself-end c = let h : c.args.self.now.count < 32 = free_place c.args.self.now c.args.p c.requires.room in search rules
 
 pub leads_to_itself-requires : goal.leads_to_itself-requires
 leads_to_itself-requires c = lefts c.args.self.now c.args.p c.requires.room c.requires.range

@@ -15,8 +15,8 @@ use Rattle.draft.proofs.draft.Draft.accept_rule.Goals as goal
 pub bounds-rules-at : goal.bounds-rules-at
 bounds-rules-at c = free_rule c.args.self.now c.args.rule c.requires.upper c.requires.lower c.requires.room
 
-pub slice-bounds-above_itself-end : goal.slice-bounds-above_itself-end
-slice-bounds-above_itself-end c =
+pub slice_bounds-above_itself-end : goal.slice_bounds-above_itself-end
+slice_bounds-above_itself-end c =
     let h : c.args.self.now.ruled < 64 = free_rule c.args.self.now c.args.rule c.requires.upper c.requires.lower c.requires.room in search rules
 
 pub above_itself-requires : goal.above_itself-requires

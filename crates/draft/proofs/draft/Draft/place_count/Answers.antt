@@ -11,8 +11,8 @@ step c =
     let more = places_more ps c.loop-i.i c.index-self-i.result (omega arith) in
     omega (arith, more, ap length c.right.ensures)
 
-pub overflow-add-count-in-loop-i : goal.overflow-add-count-in-loop-i
-overflow-add-count-in-loop-i c =
+pub overflow_add-count-in-loop-i : goal.overflow_add-count-in-loop-i
+overflow_add-count-in-loop-i c =
     let d = c.args.self.now in
     omega (arith, step c, places_within d.productions (c.loop-i.i + 1) d.count (omega arith), d.small.1)
 

@@ -10,11 +10,11 @@ use Rattle.spellings.proofs.spellings.Spellings.put_words.Goals.{in-Some+in_ok-e
 pub loop-i-init : goal.loop-i-init
 loop-i-init c = writes_none c.args.out.now c.args.at c.requires
 
-pub overflow-cast-i : goal.overflow-cast-i
-overflow-cast-i c = omega (arith, few_words c.args.self.now, c.count-i-end.ensures)
+pub overflow_cast-i : goal.overflow_cast-i
+overflow_cast-i c = omega (arith, few_words c.args.self.now, c.count-i-end.ensures)
 
-pub overflow-add-i : goal.overflow-add-i
-overflow-add-i c = omega (arith, few_words c.args.self.now, c.count-i-end.ensures)
+pub overflow_add-i : goal.overflow_add-i
+overflow_add-i c = omega (arith, few_words c.args.self.now, c.count-i-end.ensures)
 
 pub put_word_line-requires : goal.put_word_line-requires
 put_word_line-requires c = omega (arith, c.loop-i.invariant.2)

@@ -3,11 +3,11 @@ use Rattle.walk.proofs.Buffering.{taken_within, less_left}
 use Rattle.walk.proofs.Parts.{took_line, took_rest}
 use Rattle.walk.proofs.session.Session.take.Goals as goal
 
-pub slice-bounds-rest-count : goal.slice-bounds-rest-count
-slice-bounds-rest-count g c = (taken_within _ _ _ _ c.in-Some.ensures).1
+pub slice_bounds-rest-count : goal.slice_bounds-rest-count
+slice_bounds-rest-count g c = (taken_within _ _ _ _ c.in-Some.ensures).1
 
-pub slice-bounds-rest-start : goal.slice-bounds-rest-start
-slice-bounds-rest-start g c = (taken_within _ _ _ _ c.in-Some.ensures).1
+pub slice_bounds-rest-start : goal.slice_bounds-rest-start
+slice_bounds-rest-start g c = (taken_within _ _ _ _ c.in-Some.ensures).1
 
 pub loop-taken-smaller : goal.loop-taken-smaller
 loop-taken-smaller g c = less_left c.loop-taken.rest.now c.in-Some.taken (taken_within _ _ _ _ c.in-Some.ensures)
