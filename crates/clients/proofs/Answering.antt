@@ -24,7 +24,7 @@ use Rattle.clients.proofs.Calls.{Stands, never}
 
 -- what has a smallest listing is a sentence
 pub lists_sentence : (g : Grammar) (ws : List ℕ) (xs : List Record) → Lists g ws xs → Sentence g ws
-lists_sentence g ws xs h = (h.0, h.1.parse)
+lists_sentence g ws xs h = (h.0, h.1.parse.0, h.1.parse.1)
 
 -- so is what has trees
 pub trees_sentence : (g : Grammar) (ws : List ℕ) (n : ℕ) → Trees g ws (suc n) → Sentence g ws
@@ -32,7 +32,7 @@ trees_sentence g ws n t = some t.members t.all t.many
   where
     some : (ts : List Tree) → Enumerates (Parse g ws) ts → length ts ≡ suc n → Sentence g ws
     some [] e h = absurd (omega arith)
-    some (u ∷ us) e h = (u, (e.each u).0 (Memᴰ.head refl))
+    some (u ∷ us) e h = let parse = (e.each u).0 (Memᴰ.head refl) in (u, parse.0, parse.1)
 
 ok_same : {V : Type 0} (v w : V) → ◌≡◌ {A = Result V ReadingRefusal} (Ok v) (Ok w) → v ≡ w
 ok_same v w h = cc

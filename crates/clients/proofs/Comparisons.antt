@@ -24,13 +24,13 @@ left_and_right = record { once = examples.left_and_right_is.ends.0 refl; not_twi
 -- each word of a sentence is viable after those before it
 module _ (g : Grammar) (d : Compares g) (before after : Reading) (r : Result ℕ ReadingRefusal) where
   pub put_name : Put before 17 r after → Stands before g [] → (r ≡ Ok 1) × Stands after g (17 ∷ [])
-  put_name p s = let w = d.once in put_stands before after g [] 17 r p s (omega arith) (omega arith, omega arith) (w.0, 16 ∷ 17 ∷ [], w.1.0, w.1.1)
+  put_name p s = let w = d.once in put_stands before after g [] 17 r p s (omega arith) (omega arith, omega arith) (w.0, 16 ∷ 17 ∷ [], w.1, w.2)
 
   pub put_is : Put before 16 r after → Stands before g (17 ∷ []) → (r ≡ Ok 2) × Stands after g (17 ∷ 16 ∷ [])
-  put_is p s = let w = d.once in put_stands before after g (17 ∷ []) 16 r p s (omega arith) (omega arith, omega arith) (w.0, 17 ∷ [], w.1.0, w.1.1)
+  put_is p s = let w = d.once in put_stands before after g (17 ∷ []) 16 r p s (omega arith) (omega arith, omega arith) (w.0, 17 ∷ [], w.1, w.2)
 
   pub put_name_2 : Put before 17 r after → Stands before g (17 ∷ 16 ∷ []) → (r ≡ Ok 3) × Stands after g (17 ∷ 16 ∷ 17 ∷ [])
-  put_name_2 p s = let w = d.once in put_stands before after g (17 ∷ 16 ∷ []) 17 r p s (omega arith) (omega arith, omega arith) (w.0, [], w.1.0, w.1.1)
+  put_name_2 p s = let w = d.once in put_stands before after g (17 ∷ 16 ∷ []) 17 r p s (omega arith) (omega arith, omega arith) (w.0, [], w.1, w.2)
 
   pub put_is_2 : Put before 16 r after → Stands before g (17 ∷ 16 ∷ 17 ∷ []) → r ≡ Err NothingBegins
   put_is_2 p s = put_refused before after g (17 ∷ 16 ∷ 17 ∷ []) 16 r p s (omega arith) (omega arith, omega arith) d.not_twice

@@ -27,7 +27,7 @@ module _ (before after : Reading) (r : Result ℕ ReadingRefusal) where
   pub put_name : Put before 21 r after → Stands before conditions_grammar [] → (r ≡ Ok 1) × Stands after conditions_grammar (21 ∷ [])
   put_name p s =
       let w = name_whole in
-      put_stands before after conditions_grammar [] 21 r p s (omega arith) (omega arith, omega arith) (w.0, [], w.1.0, w.1.1)
+      put_stands before after conditions_grammar [] 21 r p s (omega arith) (omega arith, omega arith) (w.0, [], w.1, w.2)
 
   pub put_open : Put before 19 r after → Stands before conditions_grammar [] → (r ≡ Ok 1) × Stands after conditions_grammar (19 ∷ [])
   put_open p s =

@@ -16,7 +16,7 @@ use Rattle.clients.proofs.Calls.{Stands, opened_stands, opened_short, put_cause,
 
 -- the words of a sentence are a front
 sentence_front : (g : Grammar) (ws : List ℕ) → Sentence g ws → Front g ws
-sentence_front g ws s = (s.0, [], s.1.0, s.1.1 ∙ sym (append-nil ws))
+sentence_front g ws s = (s.0, [], s.1, s.2 ∙ sym (append-nil ws))
 
 -- in a front, each word is viable after those before it
 front_viable : (g : Grammar) (ws : List ℕ) (kind : ℕ) (vs : List ℕ) → Front g (ws ++ kind ∷ vs) → Viable g ws kind

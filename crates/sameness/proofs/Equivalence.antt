@@ -81,7 +81,7 @@ viable_more apart more ws kind v =
 sentence_more : {g h : Grammar} → Apart g.productions → More g h → (ws : List ℕ) → Sentence g ws → Sentence h ws
 sentence_more apart more ws t =
     let ρ = pick more.productions in
-    (renamed ρ.0 t.0, (whole_renamed apart more.rules_back ρ.0 ρ.1 more.starts t.1.0, same_words ρ.0 t.0 ∙ t.1.1))
+    (renamed ρ.0 t.0, whole_renamed apart more.rules_back ρ.0 ρ.1 more.starts t.1, same_words ρ.0 t.0 ∙ t.2)
 
 pub more_reading : MoreReading
 more_reading g h formed more = record { sentences = sentence_more formed.apart more; viables = viable_more formed.apart more }

@@ -15,7 +15,7 @@ accepted_sentence : (g : Grammar) (ws : List ℕ) → Accepted g ws → Sentence
 accepted_sentence g ws h =
     let p = h.0 in
     let s = item_spans h.1 in
-    (node p s.0, (record { top = p; is_free = free_node (live_known (item_live h.1)) s.1; starts = h.2 }, sym s.3 ∙ take_all (length ws) ws (omega arith)))
+    (node p s.0, record { top = p; is_free = free_node (live_known (item_live h.1)) s.1; starts = h.2 }, sym s.3 ∙ take_all (length ws) ws (omega arith))
 
 free_accepted : {g : Grammar} {ws : List ℕ} {q : ℕ} {t : Tree} → Free g q t → left_of g q ≡ g.start → words t ≡ ws → Accepted g ws
 free_accepted {g} {ws} (free_node {q = q} {f = f} known c) is e =
@@ -23,7 +23,7 @@ free_accepted {g} {ws} (free_node {q = q} {f = f} known c) is e =
     (q, rw e at item, is)
 
 pub sentences : Sentences
-sentences g ws = (accepted_sentence g ws, λ h. free_accepted h.1.0.is_free h.1.0.starts h.1.1)
+sentences g ws = (accepted_sentence g ws, λ h. free_accepted h.1.is_free h.1.starts h.2)
 
 -- ---- viable kinds
 

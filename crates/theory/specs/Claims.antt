@@ -18,7 +18,7 @@ Parse g ws t = Whole g t × (words t ≡ ws)
 
 -- the words have such a tree
 abbrev pub Sentence : Grammar → List ℕ → Type 0
-Sentence g ws = (t : Tree) × Parse g ws t
+Sentence g ws = (t : Tree) × Whole g t × (words t ≡ ws)
 
 -- the accepted lists of words are the sentences
 abbrev pub Sentences : Type 0
