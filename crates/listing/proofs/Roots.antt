@@ -28,8 +28,8 @@ module _ (s : Sources) (g : Grammar) (of : OfGrammar s g) (usable : Usable s) wh
   )
 
   pub no_sentence : NoRoot s → ¬ Sentence g (words_in s)
-  no_sentence none (u, parse) =
-      let r = whole_root g (words_in s) u parse.0 parse.1 in
+  no_sentence none (u, formed, spelled) =
+      let r = whole_root g (words_in s) u formed spelled in
       let e = of.means.known in
       let l = r.1 in
       none r.0 (omega arith) (reach_root r.0 r.1 r.2 r.3)
