@@ -66,16 +66,17 @@ invariant_of-result c =
     let low : (k : ℕ) → k < length ps → get_or c.firsts-first.result k 0 < 128 =
     λ k l. omega (arith, c.firsts-first.ensures.each k (known_at ps k l), last_low (productions ps) k (known_at ps k l), c.requires.formed.small.1) in
     let high : (k : ℕ) → k < length ps → get_or c.lasts-last.result k 0 < 128 =
-    λ k l. omega (arith, c.lasts-last.ensures.each k (known_at ps k l), last_low (productions ps) k (known_at ps k l), c.requires.formed.small.1) in (
-      few ps c.requires.formed.small.0,
-      (
-        c.firsts-first.ensures.whole,
-        (
-          c.lasts-last.ensures.whole,
-          (c.waits-waits.ensures.whole, (c.before-before.ensures.whole, (c.ranks-ranks.ensures.whole, (low, (high, tt))))),
-        ),
-      ),
-    )
+    λ k l. omega (arith, c.lasts-last.ensures.each k (known_at ps k l), last_low (productions ps) k (known_at ps k l), c.requires.formed.small.1) in
+    record {
+      few = few ps c.requires.formed.small.0;
+      firsts = c.firsts-first.ensures.whole;
+      lasts = c.lasts-last.ensures.whole;
+      waiting = c.waits-waits.ensures.whole;
+      kinds = c.before-before.ensures.whole;
+      ranked = c.ranks-ranks.ensures.whole;
+      low = low;
+      high = high;
+    }
 
 pub returns : goal.returns
 returns c =
