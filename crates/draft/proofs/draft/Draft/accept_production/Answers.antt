@@ -49,22 +49,24 @@ pub invariant_of-self : goal.invariant_of-self
 invariant_of-self c =
     let d = c.args.self.now in
     let l = free_place d c.args.p c.requires.room in
-    let w = kept c in (
-      simp length-set d.room,
-      (
-        omega arith,
-        (
-          d.rule_room,
-          (
-            d.few_rules,
-            (
-              λ k e h. let b = d.numbers k e h in (b.0, omega (arith, b.1), b.2, omega (arith, b.3)),
-              (w.small, (d.starts, (w.sides, (w.symbols, (w.prices, (w.apart, (w.named, (w.unrepeated, (w.acyclic, (w.ordered, tt)))))))))),
-            ),
-          ),
-        ),
-      ),
-    )
+    let w = kept c in
+    record {
+      room = simp length-set d.room;
+      few = omega arith;
+      rule_room = d.rule_room;
+      few_rules = d.few_rules;
+      numbers = λ k e h. let b = d.numbers k e h in (b.0, omega (arith, b.1), b.2, omega (arith, b.3));
+      small = w.small;
+      starts = d.starts;
+      sides = w.sides;
+      symbols = w.symbols;
+      prices = w.prices;
+      apart = w.apart;
+      named = w.named;
+      unrepeated = w.unrepeated;
+      acyclic = w.acyclic;
+      ordered = w.ordered;
+    }
 
 pub returns : goal.returns
 returns c =

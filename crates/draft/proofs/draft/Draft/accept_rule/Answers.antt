@@ -55,22 +55,24 @@ invariant_of-self c =
     let d = c.args.self.now in
     let x = c.args.rule in
     let l = free_rule d x c.requires.upper c.requires.lower c.requires.room in
-    let w = kept c in (
-      d.room,
-      (
-        d.few,
-        (
-          simp length-set d.rule_room,
-          (
-            omega arith,
-            (
-              numbers_kept d x c.requires.upper c.requires.lower c.requires.room,
-              (w.small, (d.starts, (w.sides, (w.symbols, (w.prices, (w.apart, (w.named, (w.unrepeated, (w.acyclic, (w.ordered, tt)))))))))),
-            ),
-          ),
-        ),
-      ),
-    )
+    let w = kept c in
+    record {
+      room = d.room;
+      few = d.few;
+      rule_room = simp length-set d.rule_room;
+      few_rules = omega arith;
+      numbers = numbers_kept d x c.requires.upper c.requires.lower c.requires.room;
+      small = w.small;
+      starts = d.starts;
+      sides = w.sides;
+      symbols = w.symbols;
+      prices = w.prices;
+      apart = w.apart;
+      named = w.named;
+      unrepeated = w.unrepeated;
+      acyclic = w.acyclic;
+      ordered = w.ordered;
+    }
 
 pub returns : goal.returns
 returns c =

@@ -4,19 +4,21 @@ use Rattle.draft.proofs.draft.Draft.new.Goals as goal
 
 pub invariant_of-result : goal.invariant_of-result
 invariant_of-result c =
-    let w = empty_well_formed in (
-      refl,
-      (
-        omega arith,
-        (
-          refl,
-          (
-            omega arith,
-            (
-              λ k d h. absurd (omega arith),
-              (w.small, (omega arith, (w.sides, (w.symbols, (w.prices, (w.apart, (w.named, (w.unrepeated, (w.acyclic, (w.ordered, tt)))))))))),
-            ),
-          ),
-        ),
-      ),
-    )
+    let w = empty_well_formed in
+    record {
+      room = refl;
+      few = omega arith;
+      rule_room = refl;
+      few_rules = omega arith;
+      numbers = λ k d h. absurd (omega arith);
+      small = w.small;
+      starts = omega arith;
+      sides = w.sides;
+      symbols = w.symbols;
+      prices = w.prices;
+      apart = w.apart;
+      named = w.named;
+      unrepeated = w.unrepeated;
+      acyclic = w.acyclic;
+      ordered = w.ordered;
+    }
