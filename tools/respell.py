@@ -108,6 +108,8 @@ def turn(path, text, defined, fields):
         after = piece[m.end():][:1]
         if before == "+" or after == "+":
             return name
+        if "-" not in name and (re.search(r"\bmod $", piece[: m.start()]) or after == "." and re.search(r"\.(proofs|specs)\.$", piece[: m.start()])):
+            return name
         if "-" not in name and path.endswith(".rt") and name not in ghost_uses:
             return name
         if before == ".":

@@ -4,7 +4,7 @@ use lib.Bits.{bit_or}
 use Rattle.std.proofs.lemmas.Bool.{cases_eq}
 use Rattle.chart.specs.Chart.{cell_of, Marked}
 use Rattle.chart.specs.Cells.{pair, Gathered}
-use Rattle.chart.proofs.pairs_grammar.{to_pair, from_pair, pair_or, no_place}
+use Rattle.chart.proofs.Pairs.{to_pair, from_pair, pair_or, no_place}
 
 pub gathered_none : (cells : List ℕ) (j : ℕ) → Gathered cells j 0 0 0
 gathered_none cells j = record { all = λ i d l m h. absurd (omega arith); only = λ d l h. absurd (no_place 0 0 refl d l h) }

@@ -8,7 +8,7 @@ use Rattle.bitset.specs.Bits.{Has}
 use Rattle.bitset.proofs.Digits.{none_of_zero, or_has, or_one_has, or_grows}
 use Rattle.tables.specs.Sets.{InSet}
 use Rattle.chart.specs.Cells.{pair, room, Grows, Added, Advanced, Cleared}
-use Rattle.chart.proofs.pairs_grammar.{to_pair, from_pair, pair_or, pair_and, up_low, up_high, raised, raised_none, no_place}
+use Rattle.chart.proofs.Pairs.{to_pair, from_pair, pair_or, pair_and, up_low, up_high, raised, raised_none, no_place}
 
 -- ---- nothing is lost
 

@@ -1,5 +1,5 @@
 pub mod Digits
-pub mod pairs_grammar
+pub mod Pairs
 pub mod Growing
 pub mod Gathering
 pub mod Bounds

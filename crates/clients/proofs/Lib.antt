@@ -1,5 +1,5 @@
 pub mod Calls
-pub mod conditions_grammar
-pub mod comparisons_grammar
+pub mod Conditions
+pub mod Comparisons
 pub mod Putting
 pub mod Answering

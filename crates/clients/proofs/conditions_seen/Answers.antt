@@ -1,7 +1,7 @@
 use Rattle.std.proofs.Common.{[], Ok, rules}
 use Rattle.small_grammars.specs.Grammars.{conditions_grammar}
 use Rattle.clients.proofs.Calls.{opened_stands, opened_short, back_stands, never}
-use Rattle.clients.proofs.conditions_grammar.{put_name, put_open, put_open_name, look_empty, look_name, look_open_name}
+use Rattle.clients.proofs.Conditions.{put_name, put_open, put_open_name, look_empty, look_name, look_open_name}
 use Rattle.clients.proofs.conditions_seen.Goals as goal
 
 pub returns-in_err-put : goal.returns-in_err-put

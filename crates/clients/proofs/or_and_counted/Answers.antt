@@ -8,7 +8,7 @@ use Rattle.score_theory.specs.Scores.{Score}
 use Rattle.small_grammars.specs.Parses.{Trees}
 use Rattle.small_grammars.proofs.Examples.{examples}
 use Rattle.reading.specs.Readings.{Long}
-use Rattle.clients.proofs.conditions_grammar.{or_and}
+use Rattle.clients.proofs.Conditions.{or_and}
 use Rattle.clients.proofs.Answering.{trees_sentence}
 use Rattle.clients.proofs.or_and_counted.Goals as goal
 

@@ -2,7 +2,7 @@ use Rattle.std.proofs.Common.{sym, subst, arith}
 use Rattle.small_grammars.specs.Parses.{Lists}
 use Rattle.small_grammars.proofs.Examples.{examples}
 use Rattle.clients.specs.Answers.{or_and_listing}
-use Rattle.clients.proofs.conditions_grammar.{or_and}
+use Rattle.clients.proofs.Conditions.{or_and}
 use Rattle.clients.proofs.or_and_listed.Goals as goal
 
 pub returns : goal.returns

@@ -4,7 +4,7 @@ use Rattle.theory.specs.Claims.{Sentence}
 use Rattle.scales.specs.ThreeScales.{price}
 use Rattle.score_theory.specs.Scores.{Score}
 use Rattle.small_grammars.proofs.Examples.{examples}
-use Rattle.clients.proofs.conditions_grammar.{or_and}
+use Rattle.clients.proofs.Conditions.{or_and}
 use Rattle.clients.proofs.Answering.{lists_sentence}
 use Rattle.clients.proofs.or_and_priced.Goals as goal
 

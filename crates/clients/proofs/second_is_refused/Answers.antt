@@ -5,7 +5,7 @@ use Rattle.grammar.specs.Grammar.{Grammar}
 use Rattle.draft.specs.Sealed.{sealed_model}
 use Rattle.reading.specs.Readings.{Long}
 use Rattle.clients.proofs.Calls.{opened_stands, opened_short, put_long, never}
-use Rattle.clients.proofs.comparisons_grammar.{Compares, nonassociative, left_and_right, put_name, put_is, put_name_2, put_is_2}
+use Rattle.clients.proofs.Comparisons.{Compares, nonassociative, left_and_right, put_name, put_is, put_name_2, put_is_2}
 use Rattle.clients.proofs.second_is_refused.Goals as goal
 
 pub returns-in_err-put : goal.returns-in_err-put

@@ -2,7 +2,7 @@ use Rattle.std.proofs.Common.{◌+◌, ◌<◌, arith}
 use Rattle.tables.specs.Meaning.{last_of}
 use Rattle.chart.specs.Chart.{cell_of}
 use Rattle.chart.specs.Columns.{ProductionDone}
-use Rattle.chart.proofs.pairs_grammar.{empty_set}
+use Rattle.chart.proofs.Pairs.{empty_set}
 use Rattle.chart.proofs.Steady.{pass_none, pass_step, moves_none}
 use Rattle.chart.proofs.closing.complete_origin.Goals as goal
 

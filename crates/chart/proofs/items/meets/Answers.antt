@@ -1,6 +1,6 @@
 use Rattle.std.proofs.Common.{arith}
 use Rattle.std.proofs.lemmas.Bool.{eqb-true, eqb-false, not-true, not-false}
-use Rattle.chart.proofs.pairs_grammar.{meeting, not_meeting}
+use Rattle.chart.proofs.Pairs.{meeting, not_meeting}
 use Rattle.chart.proofs.items.meets.Goals as goal
 
 pub returns : goal.returns
