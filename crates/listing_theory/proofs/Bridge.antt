@@ -3,7 +3,7 @@ use Rattle.std.proofs.Common.{◌≡◌, ℕ, suc, ◌+◌, ◌≤◌, List, [],
 use Rattle.std.proofs.lemmas.List.{take-append-drop, length-take-le}
 use Rattle.listing_theory.specs.declared.record.Record.{Record}
 use Rattle.grammar.specs.Grammar.{Grammar, At, size_of}
-use Rattle.grammar.specs.Trees.{node, Forest, bare, with_leaf, with_tree, words, words_of, Covers, covers_none, covers_leaf, covers_tree}
+use Rattle.grammar.specs.Trees.{node, Forest, bare, with_leaf, with_tree, words_of, Covers, covers_none, covers_leaf, covers_tree}
 use Rattle.listing_theory.specs.Listings.{entry, listings}
 use Rattle.listing_theory.specs.Ways.{Between, Rest, rest_end, rest_kind, rest_tree}
 use Rattle.theory.proofs.Lists.{take_at, at_split}

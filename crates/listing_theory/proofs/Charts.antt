@@ -2,7 +2,7 @@
 use Rattle.std.proofs.Common.{◌≡◌, ℕ, suc, ◌+◌, ◌≤◌, List, ◌++◌, length, take, drop, sym, ap, ◌∙◌, subst, append_assoc, arith, length-append}
 use Rattle.std.proofs.lemmas.List.{take-append-drop, length-take-le}
 use Rattle.grammar.specs.Grammar.{Grammar, Known, left_of, size_of}
-use Rattle.grammar.specs.Trees.{Forest, words, words_of, Covers}
+use Rattle.grammar.specs.Trees.{Forest, words_of, Covers}
 use Rattle.grammar.specs.Items.{Item, init, predict, scan, complete}
 use Rattle.listing_theory.specs.Listings.{listings}
 use Rattle.listing_theory.specs.Ways.{Between, Reach}

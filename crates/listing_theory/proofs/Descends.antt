@@ -6,7 +6,7 @@ use Rattle.theory.proofs.Lists.{at_split}
 use Rattle.listing_theory.proofs.Bridge.{rest_of_all}
 use Rattle.listing_theory.specs.declared.record.Record.{Record}
 use Rattle.grammar.specs.Grammar.{Grammar, At, Known, left_of, right_of, size_of}
-use Rattle.grammar.specs.Trees.{Tree, node, Forest, words, words_of, Covers, covers_none, covers_leaf, covers_tree}
+use Rattle.grammar.specs.Trees.{Tree, node, Forest, words_of, Covers, covers_none, covers_leaf, covers_tree}
 use Rattle.listing_theory.specs.Listings.{entry, listings}
 use Rattle.listing_theory.specs.Ways.{Between, Rest, rest_end, rest_kind, rest_tree, Reach}
 use Rattle.listing_theory.proofs.Firsts.{Steps}

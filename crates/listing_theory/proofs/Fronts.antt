@@ -4,7 +4,7 @@ use mathlib.Core.Logic.Dec
 use native.Mathlib.Decide.{dec_lt, ℕ_discrete}
 use Rattle.listing_theory.specs.declared.record.Record.{Record}
 use Rattle.grammar.specs.Grammar.{Grammar, Nonterminal, Kind, At, Known, left_of, right_of, size_of}
-use Rattle.grammar.specs.Trees.{node, Forest, bare, with_leaf, with_tree, words, words_of, Covers, covers_none, covers_leaf, covers_tree}
+use Rattle.grammar.specs.Trees.{node, Forest, bare, with_leaf, with_tree, words_of, Covers, covers_none, covers_leaf, covers_tree}
 use Rattle.listing_theory.specs.Listings.{entry}
 use Rattle.listing_theory.specs.Ways.{Between, Rest, rest_end, rest_kind, rest_tree, Reach}
 use Rattle.listing_theory.proofs.Firsts.{FitsAt, Steps, SmallestRest, FirstChild}
@@ -16,7 +16,7 @@ use Rattle.theory.proofs.Items.{item?}
 use Rattle.listing_theory.proofs.Charts.{item_inside, item_of_ways, item_of_reach, reach_of_item, predicted, completed}
 use Rattle.listing_theory.proofs.Bridge.{all_of_rest, span_none, span_word, span_join}
 use Rattle.listing_theory.proofs.Greedy.{rest_ends, rest_after_kind, rest_after_tree, smallest_end, smallest_kind, smallest_tree}
-use Rattle.listing_theory.proofs.Descends.{Ranked, Child, rest_rises, child_falls}
+use Rattle.listing_theory.proofs.Descends.{Ranked, rest_rises, child_falls}
 
 -- the first k symbols of p, over the words from i to s, are listed as xs, and the smallest way for p over the words from i to j goes on from there
 pub record Front (g : Grammar) (ws : List ℕ) (p i j k s : ℕ) (xs : List Record) : Type 0 where

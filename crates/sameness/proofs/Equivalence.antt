@@ -1,14 +1,13 @@
 -- To be the same is an equivalence, and what it and more productions keep. Assumes nothing.
-use mathlib.Core.Path.{◌≡◌, refl, sym, ◌∙◌}
+use mathlib.Core.Path.{refl, sym, ◌∙◌}
 use mathlib.Core.List.{List}
-use mathlib.Core.Logic.{◌⊎◌, inl, inr}
+use mathlib.Core.Logic.{inl, inr}
 use Prim.Native.Nat.{ℕ}
 use Rattle.grammar.specs.declared.rule.Relation.{Relation}
 use Rattle.grammar.specs.declared.rule.Relation.TheVariants.{Priority, Left, Right, NonAssoc}
 use Rattle.grammar.specs.Grammar.{Grammar, Rule, Known}
 use Rattle.grammar.specs.Order.{Ruled, Beside, Says}
-use Rattle.grammar.specs.Sound.{Apart, WellFormed}
-use Rattle.grammar.specs.Trees.{Whole}
+use Rattle.grammar.specs.Sound.{Apart}
 use Rattle.theory.specs.Claims.{Sentence, Viable}
 use Rattle.sameness.specs.Sames.{Alike, PricesIn, SaysToo, RulesIn, Same, More}
 use Rattle.sameness.specs.Claims.{Sameness, SameReading, MoreReading}

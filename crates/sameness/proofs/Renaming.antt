@@ -1,20 +1,20 @@
 -- The trees of a grammar in the numbers of another that has its productions, and no rules but its own. Assumes nothing.
 use mathlib.Core.Path.{◌≡◌, refl, sym, ◌∙◌, ap, subst, subst₂}
-use mathlib.Core.List.{List, [], ◌∷◌, ◌++◌}
-use mathlib.Core.Logic.{◌⊎◌, inl, inr}
-use Prim.Native.Nat.{ℕ, suc, ◌≤◌, ◌<◌}
+use mathlib.Core.List.{[], ◌∷◌, ◌++◌}
+use mathlib.Core.Logic.{inl, inr}
+use Prim.Native.Nat.{ℕ, ◌<◌}
 use native.Mathlib.Omega.{arith}
 use native.Mathlib.Decide.{dec_lt}
-use lib.ListN.{length, get_or}
+use lib.ListN.{length}
 use Rattle.grammar.specs.declared.rule.Relation.{Relation}
 use Rattle.grammar.specs.declared.rule.Relation.TheVariants.{Priority, Left, Right, NonAssoc}
-use Rattle.grammar.specs.Grammar.{Grammar, Nonterminal, Kind, At, Known, left_of, right_of, size_of}
-use Rattle.grammar.specs.Order.{Closure, closure_one, closure_more, Ruled, Above, Beside, Says, Conflict, conflict_above, conflict_first, conflict_last}
+use Rattle.grammar.specs.Grammar.{Grammar, Nonterminal, At, Known, size_of}
+use Rattle.grammar.specs.Order.{closure_one, closure_more, Ruled, Above, Beside, Says, Conflict, conflict_above, conflict_first, conflict_last}
 use Rattle.grammar.specs.Sound.{Apart}
 use Rattle.grammar.specs.Trees.{Tree, node, Forest, bare, with_leaf, with_tree, words, words_of, Covers, covers_none, covers_leaf, covers_tree, Free, free_node, Whole}
 use Rattle.scales.specs.Scales.{Scale}
 use Rattle.score_theory.specs.Scores.{price_of, product, products}
-use Rattle.sameness.specs.Sames.{Alike, ProductionsIn, RulesIn}
+use Rattle.sameness.specs.Sames.{Alike, RulesIn}
 
 pub alike_sym : {g h : Grammar} {p q : ℕ} → Alike g p h q → Alike h q g p
 alike_sym a = record { here = a.there; there = a.here; lefts = sym a.lefts; rights = sym a.rights }

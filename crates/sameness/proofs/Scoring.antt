@@ -10,7 +10,7 @@ use Rattle.theory.specs.Claims.{Parse}
 use Rattle.scales.specs.Scales.{Scale}
 use Rattle.score_theory.specs.Totals.{total, Distinct, distinct_none, distinct_more, Enumerates}
 use Rattle.score_theory.specs.Scores.{Score, price_of, product}
-use Rattle.sameness.specs.Sames.{Alike, PricesIn, RulesIn, Same}
+use Rattle.sameness.specs.Sames.{Alike, PricesIn, Same}
 use Rattle.sameness.specs.Claims.{SameScores}
 use Rattle.sameness.proofs.Renaming.{alike_trans, one_production, pick, renamed, same_words, whole_renamed, product_renamed, again}
 use Rattle.sameness.proofs.Equivalence.{turned}
