@@ -21,11 +21,11 @@ returns-else-k-input c =
 pub bounds-input-p : goal.bounds-input-p
 bounds-input-p c = omega (arith, c.requires.parent, c.requires.fit.few)
 
-pub offset-bounds-input-p : goal.offset-bounds-input-p
-offset-bounds-input-p c = omega (arith, c.requires.parent, c.requires.fit.few)
+pub bounds-input-p : goal.bounds-input-p
+bounds-input-p c = omega (arith, c.requires.parent, c.requires.fit.few)
 
 pub overflow_cast-result : goal.overflow_cast-result
-overflow_cast-result c = omega (arith, c.left.type-inv)
+overflow_cast-result c = omega (arith, c.left.type_inv)
 
 pub returns-then-k-input : goal.returns-then-k-input
 returns-then-k-input c = cond_below c.args.k (get_or c.args.input.now.tails c.args.p 0) _ _ c.if-k-input.true

@@ -39,10 +39,10 @@ overflow_add-result c =
     let a = first_low c.args.input.now c.requires.fit c.args.p c.args.k c.requires.parent c.requires.position in
     omega (arith, c.requires.child, c.requires.fit.few)
 
-pub offset-bounds-input-q : goal.offset-bounds-input-q
-offset-bounds-input-q c =
+pub bounds-input-q : goal.bounds-input-q
+bounds-input-q c =
     let a = first_low c.args.input.now c.requires.fit c.args.p c.args.k c.requires.parent c.requires.position in
     omega (arith, c.requires.child, c.requires.fit.few)
 
-pub overflow-shr-result : goal.overflow-shr-result
-overflow-shr-result c = omega arith
+pub overflow_shr-result : goal.overflow_shr-result
+overflow_shr-result c = omega arith
