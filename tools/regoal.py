@@ -12,7 +12,7 @@ import sys
 
 TOKEN = re.compile(r"[A-Za-z][\w'+]*(?:-[\w'+]+)+")
 OUTSIDE = re.compile(r"use ((?:Rattle\.std|lib|borrow|Prim|mathlib|native|denote|logic|base|seplogic)(?:\.[\w'-]+)*)\.\{([^}]*)\}")
-MADE = ["overflow_mul", "overflow_add", "overflow_sub", "overflow_cast", "overflow_shl", "overflow_step", "slice_bounds", "in_ok", "in_err", "in_default", "from_residual", "invariant_of", "is_true", "is_false", "enum_known", "known_told", "In_ok", "In_err", "In_default"]
+MADE = ["offset_bounds", "type_inv", "overflow_shr", "overflow_mul", "overflow_add", "overflow_sub", "overflow_cast", "overflow_shl", "overflow_step", "slice_bounds", "in_ok", "in_err", "in_default", "from_residual", "invariant_of", "is_true", "is_false", "enum_known", "known_told", "In_ok", "In_err", "In_default"]
 
 
 def vocabulary(crate):

@@ -7,8 +7,8 @@ use Rattle.agreement.proofs.play.play.Goals as goal
 pub loop-i-init : goal.loop-i-init
 loop-i-init g c = (played_none, refl, refl, omega arith)
 
-pub bounds-answers-i : goal.bounds-answers-i
-bounds-answers-i g c =
+pub offset_bounds-answers-i : goal.offset_bounds-answers-i
+offset_bounds-answers-i g c =
     let count = c.min-count.ensures in
     let more = c.loop-i-test.true in
     let inside : c.loop-i.i < length c.args.answers.now = omega arith in

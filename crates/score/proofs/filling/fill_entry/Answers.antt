@@ -6,8 +6,8 @@ use Rattle.score.proofs.Places.{index_low}
 use Rattle.score.proofs.Stages.{skip_level}
 use Rattle.score.proofs.filling.fill_entry.Goals as goal
 
-pub bounds-table-index : goal.bounds-table-index
-bounds-table-index g c =
+pub offset_bounds-table-index : goal.offset_bounds-table-index
+offset_bounds-table-index g c =
     let a = index_low c.args.input.now c.args.p c.args.k c.args.i c.args.j c.requires.inside in
     let b : c.index.result < length c.args.table.now = omega (arith, c.index.ensures, c.requires.room) in
     search rules

@@ -21,8 +21,8 @@ returns-else-k-input c =
 pub bounds-input-p : goal.bounds-input-p
 bounds-input-p c = omega (arith, c.requires.parent, c.requires.fit.few)
 
-pub bounds-input-p : goal.bounds-input-p
-bounds-input-p c = omega (arith, c.requires.parent, c.requires.fit.few)
+pub offset_bounds-input-p : goal.offset_bounds-input-p
+offset_bounds-input-p c = omega (arith, c.requires.parent, c.requires.fit.few)
 
 pub overflow_cast-result : goal.overflow_cast-result
 overflow_cast-result c = omega (arith, c.left.type_inv)

@@ -39,8 +39,8 @@ overflow_add-result c =
     let a = first_low c.args.input.now c.requires.fit c.args.p c.args.k c.requires.parent c.requires.position in
     omega (arith, c.requires.child, c.requires.fit.few)
 
-pub bounds-input-q : goal.bounds-input-q
-bounds-input-q c =
+pub offset_bounds-input-q : goal.offset_bounds-input-q
+offset_bounds-input-q c =
     let a = first_low c.args.input.now c.requires.fit c.args.p c.args.k c.requires.parent c.requires.position in
     omega (arith, c.requires.child, c.requires.fit.few)
 

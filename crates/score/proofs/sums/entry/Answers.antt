@@ -3,8 +3,8 @@ use Rattle.std.proofs.lemmas.List.{get_or_read}
 use Rattle.score.proofs.Places.{index_low}
 use Rattle.score.proofs.sums.entry.Goals as goal
 
-pub bounds-table-index : goal.bounds-table-index
-bounds-table-index g c =
+pub offset_bounds-table-index : goal.offset_bounds-table-index
+offset_bounds-table-index g c =
     let a = index_low c.args.input.now c.args.p c.args.k c.args.i c.args.j c.requires.inside in
     omega (arith, c.index.ensures, c.requires.room)
 

@@ -16,5 +16,5 @@ returns-else-left-start g c v root =
     let left = read_left c.args.input.now.productions.now c.args.p _ c.requires.inside _ c.left.ensures in
     c.none.ensures ∙ sym (root.other (λ e. c.if-left-start.false (left ∙ e)))
 
-pub bounds-input-p : goal.bounds-input-p
-bounds-input-p g c = omega (arith, c.requires.inside, c.requires.fit.few)
+pub offset_bounds-input-p : goal.offset_bounds-input-p
+offset_bounds-input-p g c = omega (arith, c.requires.inside, c.requires.fit.few)
