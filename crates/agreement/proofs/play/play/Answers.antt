@@ -12,7 +12,7 @@ offset_bounds-answers-i g c =
     let count = c.min-count.ensures in
     let more = c.loop-i-test.true in
     let inside : c.loop-i.i < length c.args.answers.now = omega arith in
-    scaled_Fits c.loop-i.i (length c.args.answers.now) _ inside c.well-formed.1.1.1.1.0.1
+    scaled_Fits c.loop-i.i (length c.args.answers.now) _ inside c.well_formed.1.1.1.1.0.1
 
 pub loop-i-preserved : goal.loop-i-preserved
 loop-i-preserved g c =
