@@ -9,7 +9,7 @@ overflow_mul-n c = omega (arith, front_small c.args.digits.now c.loop-byte.byte-
 pub overflow_add-n : goal.overflow_add-n
 overflow_add-n c =
     let i = c.loop-byte.byte-index in
-    omega (arith, front_small c.args.digits.now i c.requires c.loop-byte.invariant.0, c.type-inv.digits i)
+    omega (arith, front_small c.args.digits.now i c.requires c.loop-byte.invariant.0, c.type_inv.digits i)
 
 pub loop-byte-preserved : goal.loop-byte-preserved
 loop-byte-preserved c =
