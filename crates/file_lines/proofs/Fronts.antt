@@ -1,5 +1,5 @@
 -- A text that begins with fixed bytes, as slice patterns test it. Assumes nothing.
-use Rattle.std.proofs.Common.{◌≡◌, ℕ, suc, ◌-◌, ◌<◌, ◌≤◌, List, [], ◌∷◌, ◌++◌, length, get_or, take, drop, sym, refl, ap, ◌∙◌, arith, take_all}
+use Rattle.std.proofs.Common.{◌≡◌, ℕ, suc, ◌-◌, ◌≤◌, List, [], ◌∷◌, ◌++◌, length, take, drop, sym, ap, ◌∙◌, arith, take_all}
 use Rattle.std.proofs.lemmas.Slice.Eq.{HasBytesAt}
 
 shifted : (x : ℕ) (s : List ℕ) (i : ℕ) (p : List ℕ) → HasBytesAt (x ∷ s) (suc i) p → HasBytesAt s i p

@@ -6,7 +6,7 @@ use Rattle.grammar.specs.declared.refusals.FileRefusal.{FileRefusal}
 use Rattle.grammar.specs.declared.refusals.FileRefusal.TheVariants.{Mark, Form, Declared, Undeclared, ShortText}
 use Rattle.grammar.specs.declared.refusals.Refusal.{Refusal}
 use Rattle.grammar.specs.declared.refusals.Refusal.TheVariants.{Draft, File}
-use Rattle.grammar.specs.Grammar.{Production, Rule, Grammar, empty_grammar, with_start}
+use Rattle.grammar.specs.Grammar.{Production, Rule, empty_grammar, with_start}
 use Rattle.draft.specs.Calls.{AddsProduction, AddsRule}
 use Rattle.syntax.specs.Syntax.{Spelling, Line, word_line, production_line, rule_line, HasForm, mark_line, start_line, render}
 use Rattle.syntax.specs.Free.{FreeOf}

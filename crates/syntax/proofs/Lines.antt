@@ -8,7 +8,7 @@ use Rattle.syntax.specs.Syntax.{Spelling, literal, name, num, Symbol, nontermina
 use Rattle.syntax.specs.Free.{FreeOf}
 use Rattle.syntax.proofs.Numbers.{decimal_shape}
 use Rattle.syntax.proofs.Unique.{decimal_injective, spelling_injective, spelling_long, symbol_injective, sign_injective}
-use Rattle.syntax.proofs.Free.{part_no_space, symbol_part, decimal_part}
+use Rattle.syntax.proofs.Free.{part_no_space, from_one, symbol_part, decimal_part}
 
 -- a text before the first b is determined
 pub before_first :
@@ -61,7 +61,7 @@ no_semicolon (nonterminal s) e = omega (arith, ap (λ l. get_or l 0 0) e)
 no_semicolon (spelled w) e = omega (arith, ap length e, spelling_long w)
 
 semicolon_free : FreeOf 32 (59 ∷ [])
-semicolon_free = part_no_space (59 ∷ []) (omega arith, (omega arith, tt))
+semicolon_free = part_no_space (59 ∷ []) (omega arith, from_one 33 59 (omega arith))
 
 symbol_free : (s : Symbol) → ValidSymbol s → FreeOf 32 (symbol_text s)
 symbol_free s v = part_no_space (symbol_text s) (symbol_part s v)

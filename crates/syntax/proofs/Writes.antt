@@ -1,5 +1,5 @@
 -- Bytes that are written one after the other into a text of a fixed length.
-use Rattle.std.proofs.Common.{◌≡◌, ℕ, ◌+◌, ◌-◌, ◌<◌, ◌≤◌, List, [], ◌∷◌, ◌++◌, length, get_or, take, drop, set, Ok, Err, Result, sym, refl, ap, ◌∙◌, subst, add-zero, arith, length-append, length-set}
+use Rattle.std.proofs.Common.{◌≡◌, ℕ, ◌+◌, ◌<◌, ◌≤◌, List, [], ◌∷◌, ◌++◌, length, get_or, take, drop, set, Ok, Err, Result, sym, refl, ap, ◌∙◌, subst, add-zero, arith, length-append, length-set}
 use Rattle.std.proofs.lemmas.List.{append-nil, append_assoc, set_at, set_past, take_more, drop_all, length_push, length-take-le, take-append-drop}
 use Rattle.grammar.specs.declared.refusals.FileRefusal.{FileRefusal}
 use Rattle.syntax.specs.Writing.{overlaid, Writes}

@@ -1,4 +1,4 @@
-use Rattle.std.proofs.Common.{◌≡◌, ℕ, ◌-◌, List, [], ◌∷◌, ◌++◌, length, take, drop, sym, ap, ◌∙◌, arith, rules, ltb-false}
+use Rattle.std.proofs.Common.{◌≡◌, ◌-◌, [], ◌∷◌, ◌++◌, length, take, drop, sym, ap, ◌∙◌, arith, rules, ltb-false}
 use Rattle.syntax.proofs.Free.{mark_no_feed}
 use Rattle.syntax.proofs.Lines.{mark_bytes}
 use Rattle.file_lines.proofs.Fronts.{begins}

@@ -1,4 +1,4 @@
-use Rattle.std.proofs.Common.{◌≡◌, ℕ, ◌+◌, ◌-◌, ◌<◌, ◌≤◌, List, [], ◌∷◌, ◌++◌, length, get_or, take, drop, sym, ap, ◌∙◌, arith, ltb-false}
+use Rattle.std.proofs.Common.{◌≡◌, ◌+◌, ◌-◌, [], ◌∷◌, length, get_or, take, drop, sym, ap, ◌∙◌, arith, ltb-false}
 use Rattle.syntax.proofs.Free.{start_no_feed}
 use Rattle.file_lines.proofs.Fronts.{begins}
 use Rattle.file_lines.proofs.reading.read_start.Goals as goal

@@ -2,7 +2,7 @@ use Rattle.std.proofs.Common.{◌≡◌, ℕ, ◌+◌, ◌-◌, ◌≤◌, List,
 use Rattle.std.specs.List.{between}
 use Rattle.std.proofs.lemmas.List.{take_more, get_or_push}
 use Rattle.std.proofs.lemmas.Slice.{first_rest}
-use Rattle.syntax.proofs.reading.quoted.Goals.{in_default-default-via-then-rest-lt1, in_default-default-via-else-rest-lt1+in_default·}
+use Rattle.syntax.proofs.reading.quoted.Goals.{in_default-via-then-part-lt1, in_default-via-else-part-lt1+in_default-1, in_default-rest-via-then-rest-lt1, in_default-rest-via-else-rest-lt1+in_default-1}
 use Rattle.syntax.proofs.reading.quoted.Goals as goal
 
 last_of : (l : List ℕ) (b : ℕ) → 1 ≤ length l → get_or l (length l - 1) 0 ≡ b → l ≡ take (length l - 1) l ++ b ∷ []
@@ -28,12 +28,19 @@ ends_so l bs e =
     let n = length-append bs (34 ∷ []) in
     rw r (omega arith, get_or_push bs 34 0 (length (bs ++ 34 ∷ []) - 1) (omega arith))
 
-pub returns-in_default-default : goal.returns-in_default-default
-returns-in_default-default c = λ bs e.
+pub returns-in_default : goal.returns-in_default
+returns-in_default c = λ bs e.
+    elim c.in_default.branch [
+      | in_default-via-then-part-lt1 w ↦ omega (arith, ap length e, ltb-true, ltb-false)
+      | in_default-via-else-part-lt1+in_default-1 w ↦ omega (arith, ap (λ l. get_or l 0 0) e, ltb-true, ltb-false)
+    ]
+
+pub returns-in_default-rest : goal.returns-in_default-rest
+returns-in_default-rest c = λ bs e.
     let n = ends_so c.args.part.now bs e in
-    elim c.in_default-default.branch [
-      | in_default-default-via-then-rest-lt1 w ↦ omega (arith, ltb-true, ltb-false)
-      | in_default-default-via-else-rest-lt1+in_default· w ↦ omega (arith, ltb-true, ltb-false)
+    elim c.in_default-rest.branch [
+      | in_default-rest-via-then-rest-lt1 w ↦ omega (arith, ltb-true, ltb-false)
+      | in_default-rest-via-else-rest-lt1+in_default-1 w ↦ omega (arith, ltb-true, ltb-false)
     ]
 
 pub returns : goal.returns

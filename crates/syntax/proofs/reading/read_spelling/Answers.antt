@@ -8,24 +8,24 @@ use Rattle.syntax.proofs.reading.read_spelling.Goals as goal
 no_spelling : (part inner : List ℕ) → part ≡ 34 ∷ (inner ++ 34 ∷ []) → ¬ ValidSpelling (literal inner) → (w : Spelling) → ValidSpelling w → ¬ (part ≡ spelling_text w)
 no_spelling part inner e h w v f = h (subst (λ (s : Spelling). ValidSpelling s) (sym (spelling_injective (literal inner) w (sym e ∙ f))) v)
 
-pub returns-in_err-literal : goal.returns-in_err-literal
-returns-in_err-literal c =
-    rw c.from_residual-in_err-literal.ensures
-    (no_spelling c.args.part.now _ c.in_ok-inner.ensures c.in_err-literal.ensures)
+pub returns-in_err-literal-in_default : goal.returns-in_err-literal-in_default
+returns-in_err-literal-in_default c =
+    rw c.from_residual-in_err-literal-in_default.ensures
+    (no_spelling c.args.part.now _ c.in_ok-inner-in_default.ensures c.in_err-literal-in_default.ensures)
 
-pub returns-in-78-2 : goal.returns-in-78-2
-returns-in-78-2 c =
+pub returns-in-NUM : goal.returns-in-NUM
+returns-in-NUM c =
     (tt, text_from_reads c.args.part.now (codes "NUM") (omega (arith, ltb-true, ltb-false)) (omega arith, (omega arith, (omega arith, tt))))
 
-pub returns-in-78 : goal.returns-in-78
-returns-in-78 c = (
+pub returns-in-NAME : goal.returns-in-NAME
+returns-in-NAME c = (
   tt,
   text_from_reads c.args.part.now (codes "NAME") (omega (arith, ltb-true, ltb-false))
       (omega arith, (omega arith, (omega arith, (omega arith, tt)))),
 )
 
-pub returns-in_ok-literal : goal.returns-in_ok-literal
-returns-in_ok-literal c = (
-  literal_valid c.in_ok-literal.literal,
-  c.in_ok-inner.ensures ∙ ap (λ bs. 34 ∷ (bs ++ 34 ∷ [])) (sym c.in_ok-literal.ensures),
+pub returns-in_ok-literal-in_default : goal.returns-in_ok-literal-in_default
+returns-in_ok-literal-in_default c = (
+  literal_valid c.in_ok-literal-in_default.literal,
+  c.in_ok-inner-in_default.ensures ∙ ap (λ bs. 34 ∷ (bs ++ 34 ∷ [])) (sym c.in_ok-literal-in_default.ensures),
 )

@@ -32,7 +32,7 @@ invariant_of-result c =
     let s = c.args.bytes.now in
     let inv = c.loop-i.invariant in
     let same = filled c.loop-i.copy s c.loop-i.i (omega arith) inv.1 in
-    (inv.0, (omega arith, (omega arith, (plain_copy c.loop-i.copy s same (λ k h. inv.2 k (omega arith)), tt))))
+    record { whole = inv.0; some = omega arith; short = omega arith; plain = plain_copy c.loop-i.copy s same (λ k h. inv.2 k (omega arith)) }
 
 pub returns : goal.returns
 returns c = filled c.loop-i.copy c.args.bytes.now c.loop-i.i (omega arith) c.loop-i.invariant.1
