@@ -4,7 +4,7 @@ use Rattle.std.specs.Prelude.{ℕ, List, [], ◌∷◌, Ok, Err}
 use Rattle.grammar.specs.declared.refusals.DraftRefusal.TheVariants.{LeadsToItself}
 use Rattle.grammar.specs.Grammar.{Production, Grammar, empty_grammar, with_production}
 use Rattle.draft.specs.Calls.{AddsProduction}
-use Rattle.small_grammars.specs.Examples.{SmallGrammars}
+use Rattle.small_grammars.specs.Examples.{LineExamples, SmallGrammars}
 
 -- A = B A
 abbrev pub recursive : ℕ → Production
@@ -27,4 +27,5 @@ LeadingToItselfRefused =
 -- all examples hold
 pub record ProvedExamples : Type 0 where
   pub small_grammars : SmallGrammars
+  pub small_lines : LineExamples
   pub leading_to_itself : LeadingToItselfRefused

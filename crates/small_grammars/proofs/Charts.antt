@@ -2,7 +2,7 @@
 use Rattle.std.proofs.Common.{◌≡◌, ℕ, suc, ◌*◌, Bool, true, eqb, List, [], ◌++◌, length, Decides, All, sym, refl, subst}
 use mathlib.Core.List.{Memᴰ}
 use Rattle.std.specs.List.{flat_map}
-use Rattle.std.proofs.lemmas.List.Elements.{All-append}
+use Rattle.std.proofs.lemmas.List.Elements.{All-nil, All-append}
 use Rattle.std.proofs.lemmas.Bool.{eqb-true, eq-eqb}
 use Rattle.std.proofs.lemmas.Bool.Decides.{Decides-like}
 use Rattle.grammar.specs.Grammar.{Grammar, Kind, At, left_of, right_of, size_of, places}
@@ -115,7 +115,7 @@ module _ (g : Grammar) (A : List (ℕ × ℕ)) (L ws : List ℕ) where
 
     module _ (closed : entries_closed ≡ true) where
       found_item : {x : Entry} → Memᴰ x entries → X x
-      found_item = all_of X entries (saturate_all same_entry X entry_step entry_keeps bound [] tt)
+      found_item = all_of X entries (saturate_all same_entry X entry_step entry_keeps bound [] (All-nil X))
 
       item_found : {p k i j : ℕ} → Item g ws p k i j → Memᴰ (entry p k i j) entries
       item_found =

@@ -2,7 +2,7 @@
 use Rattle.std.proofs.Common.{◌≡◌, ℕ, zero, suc, ◌≤◌, Bool, true, ◌&&◌, ◌||◌, eqb, ltb, ◌⊎◌, List, [], ◌∷◌, ◌++◌, length, Decides, All, sym, refl, ap, ◌∙◌, subst, inl, inr}
 use mathlib.Core.List.{Memᴰ}
 use Rattle.std.specs.List.{flat_map}
-use Rattle.std.proofs.lemmas.List.Elements.{All-append}
+use Rattle.std.proofs.lemmas.List.Elements.{All-nil, All-head, All-append}
 use Rattle.std.proofs.lemmas.Bool.{and_parts, eqb-true, eq-eqb}
 use Rattle.std.proofs.lemmas.Bool.Decides.{Decides-like, Decides-and, Decides-or, Decides-eqb, Decides-ltb}
 use Rattle.grammar.specs.declared.rule.Relation.{Relation}
@@ -122,7 +122,7 @@ above_in :
     Memᴰ (p, q) D
 above_in rs D h (closure_one {x = x} {y = y} r) =
     let here = all_joined (λ d. Memᴰ d D) (above_by D) rs h r in
-    (all_parts (λ d. Memᴰ d D) ((x, y) ∷ []) (flat_map (λ d. when (eqb y d.0) (x, d.1)) D) here).0.0
+    All-head (λ d. Memᴰ d D) (x, y) [] (all_parts (λ d. Memᴰ d D) ((x, y) ∷ []) (flat_map (λ d. when (eqb y d.0) (x, d.1)) D) here).0
 above_in rs D h (closure_more {x = x} {y = y} {z = z} r c) =
     let here = all_joined (λ d. Memᴰ d D) (above_by D) rs h r in
     let more = (all_parts (λ d. Memᴰ d D) ((x, y) ∷ []) (flat_map (λ d. when (eqb y d.0) (x, d.1)) D) here).1 in
@@ -136,7 +136,7 @@ pub above_exact : (g : Grammar) → above_closed g ≡ true → AboveExact g (ab
 above_exact g closed p q =
     Decides-like
     _
-    (all_of (AbovePair g.rules) (above g) (saturate_all same_pair (AbovePair g.rules) (above_step g.rules) (above_keeps g.rules) (length g.rules) [] tt))
+    (all_of (AbovePair g.rules) (above g) (saturate_all same_pair (AbovePair g.rules) (above_step g.rules) (above_keeps g.rules) (length g.rules) [] (All-nil (AbovePair g.rules))))
     (above_in g.rules (above g) (subset_all same_pair decides_pair (above_step g.rules (above g)) (above g) closed))
     (decides_in same_pair decides_pair (p, q) (above g))
 

@@ -6,7 +6,7 @@ use Rattle.theory.specs.Claims.{Viable}
 use Rattle.small_grammars.specs.Next.{Next}
 use Rattle.small_grammars.specs.Grammars.{conditions_grammar, unruled_conditions_grammar, commands_grammar, nonassociative_grammar, left_and_right_grammar, between_grammar, any_pairs_grammar, left_pairs_grammar, detour_grammar}
 use Rattle.small_grammars.specs.Parses.{row}
-use Rattle.small_grammars.specs.Examples.{SmallGrammars}
+use Rattle.small_grammars.specs.Examples.{LineExamples, SmallGrammars}
 use Rattle.small_grammars.proofs.Checked.{checked}
 use Rattle.small_grammars.proofs.Weighed.{listed, trees, costs}
 
@@ -36,6 +36,10 @@ examples = record {
   nonassociative_is_is = not_viable nonassociative_is 0 (omega arith) refl;
   left_and_right_is = left_and_right_is;
   left_and_right_is_is = not_viable left_and_right_is 0 (omega arith) refl;
+}
+
+pub small_lines : LineExamples
+small_lines = record {
   conditions_lists = listed conditions_grammar (21 ∷ 16 ∷ 21 ∷ 17 ∷ 21 ∷ []) (row 1 0 5 ∷ row 5 0 1 ∷ row 2 2 5 ∷ row 5 2 3 ∷ row 5 4 5 ∷ []) refl;
   conditions_costs = costs conditions_grammar (21 ∷ 16 ∷ 21 ∷ 17 ∷ 21 ∷ []) 8 refl;
   conditions_trees = trees conditions_grammar (21 ∷ 16 ∷ 21 ∷ 17 ∷ 21 ∷ []) 1 refl;

@@ -4,6 +4,7 @@ use mathlib.Core.List.Memᴰ
 use mathlib.Core.List.{Memᴰ}
 use native.Mathlib.Decide.{dec_lt}
 use Rattle.std.specs.List.{flat_map}
+use Rattle.std.proofs.lemmas.List.Elements.{All-nil}
 use Rattle.std.proofs.lemmas.Bool.Decides.{Decides-and, Decides-or, Decides-not, Decides-eqb, Decides-ltb}
 use Rattle.grammar.specs.Grammar.{Grammar, Nonterminal, Kind, At, left_of, right_of, size_of}
 use Rattle.grammar.specs.Order.{Conflict}
@@ -101,6 +102,6 @@ module _ (g : Grammar) (A : List (ℕ × ℕ)) where
     -- exactly the live productions are found
     pub live_exact : lives_closed ≡ true → (p : ℕ) → (Memᴰ p lives → Live g p) × (Live g p → Memᴰ p lives)
     live_exact closed p = (
-      all_of (Live g) lives (saturate_all eqb (Live g) live_step live_keeps (length g.productions) [] tt),
+      all_of (Live g) lives (saturate_all eqb (Live g) live_step live_keeps (length g.productions) [] (All-nil (Live g))),
       live_least g (λ p. Memᴰ p lives) (live_in lives (subset_all eqb Decides-eqb (live_step lives) lives closed)) p,
     )

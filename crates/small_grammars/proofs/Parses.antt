@@ -2,6 +2,7 @@
 use Rattle.std.proofs.Common.{◌≡◌, ℕ, Bool, true, not, ◌&&◌, List, [], ◌∷◌, length, take, Decides, All, sym, refl, ◌∙◌, subst, append-nil, arith, take_all}
 use mathlib.Core.List.{Memᴰ}
 use Rattle.std.specs.List.{flat_map}
+use Rattle.std.proofs.lemmas.List.Elements.{All-nil, All-cons}
 use Rattle.std.proofs.lemmas.Bool.{and_parts}
 use Rattle.std.proofs.lemmas.Bool.Decides.{Decides-not}
 use Rattle.grammar.specs.Grammar.{Grammar, left_of, size_of}
@@ -28,8 +29,8 @@ module _ {A : Type 0} (same : A → A → Bool) where
       distinct_more ((Decides-not _ (decides_in same d x xs)).0 r.0) (once_distinct d xs r.1)
 
 each_in : {A : Type 0} (xs : List A) {P : A → Type 0} → ((x : A) → Memᴰ x xs → P x) → All P xs
-each_in [] h = tt
-each_in (x ∷ xs) h = (h x (Memᴰ.head refl), each_in xs (λ y m. h y (Memᴰ.tail m)))
+each_in [] {P = P} h = All-nil P
+each_in (x ∷ xs) {P = P} h = All-cons P x xs (h x (Memᴰ.head refl)) (each_in xs {P = P} (λ y m. h y (Memᴰ.tail m)))
 
 -- ---- the trees of the ways that span all words
 

@@ -4,7 +4,7 @@ use mathlib.Core.List.Memᴰ
 use mathlib.Core.List.{Memᴰ}
 use mathlib.Core.Bool.{beq}
 use Rattle.std.specs.List.{flat_map}
-use Rattle.std.proofs.lemmas.List.Elements.{All-append}
+use Rattle.std.proofs.lemmas.List.Elements.{All-nil, All-cons, All-head, All-tail, All-append}
 use Rattle.std.proofs.lemmas.Bool.{false≢true, cond_both}
 use Rattle.std.proofs.lemmas.Bool.Decides.{Decides-like, Decides-or, Decides-by_and, Decides-below_and}
 
@@ -57,22 +57,22 @@ when false x = []
 module _ {A : Type 0} (P : A → Type 0) where
   pub all_of : (xs : List A) {x : A} → All P xs → Memᴰ x xs → P x
   all_of [] h m = absurd (Memᴰ.not-nil m)
-  all_of (y ∷ ys) h m = elim (Memᴰ.cases_cons m) [ inl e ↦ subst P (sym e) h.0 | inr k ↦ all_of ys h.1 k ]
+  all_of (y ∷ ys) h m = elim (Memᴰ.cases_cons m) [ inl e ↦ subst P (sym e) (All-head P y ys h) | inr k ↦ all_of ys (All-tail P y ys h) k ]
 
   pub all_parts : (xs ys : List A) → All P (xs ++ ys) → All P xs × All P ys
-  all_parts [] ys h = (tt, h)
-  all_parts (x ∷ xs) ys h = let r = all_parts xs ys h.1 in ((h.0, r.0), r.1)
+  all_parts [] ys h = (All-nil P, h)
+  all_parts (x ∷ xs) ys h = let r = all_parts xs ys (All-tail P x (xs ++ ys) h) in (All-cons P x xs (All-head P x (xs ++ ys) h) r.0, r.1)
 
   pub when_all : (b : Bool) (x : A) → (b ≡ true → P x) → All P (when b x)
-  when_all true x h = (h refl, tt)
-  when_all false x h = tt
+  when_all true x h = All-cons P x [] (h refl) (All-nil P)
+  when_all false x h = All-nil P
 
   pub all_when : (b : Bool) (x : A) → All P (when b x) → b ≡ true → P x
-  all_when true x h e = h.0
+  all_when true x h e = All-head P x [] h
   all_when false x h e = absurd (false≢true e)
 
   pub joined_all : {B : Type 0} (f : B → List A) (ys : List B) → ((y : B) → Memᴰ y ys → All P (f y)) → All P (flat_map f ys)
-  joined_all f [] h = tt
+  joined_all f [] h = All-nil P
   joined_all f (y ∷ ys) h = All-append P (f y) (flat_map f ys) (h y (Memᴰ.head refl)) (joined_all f ys (λ z m. h z (Memᴰ.tail m)))
 
   pub all_joined : {B : Type 0} (f : B → List A) (ys : List B) {y : B} → All P (flat_map f ys) → Memᴰ y ys → All P (f y)
@@ -107,11 +107,11 @@ module _ {A : Type 0} (same : A → A → Bool) where
   module _ (P : A → Type 0) where
     insert_all : (b : Bool) (x : A) (D : List A) → P x → All P D → All P (insert b x D)
     insert_all true x D p h = h
-    insert_all false x D p h = (p, h)
+    insert_all false x D p h = All-cons P x D p h
 
     union_all : (xs D : List A) → All P xs → All P D → All P (union xs D)
     union_all [] D h k = k
-    union_all (x ∷ xs) D h k = union_all xs (insert (any (same x) D) x D) h.1 (insert_all (any (same x) D) x D h.0 k)
+    union_all (x ∷ xs) D h k = union_all xs (insert (any (same x) D) x D) (All-tail P x xs h) (insert_all (any (same x) D) x D (All-head P x xs h) k)
 
     -- what the step keeps holds of every element
     pub saturate_all : (step : List A → List A) → ((D : List A) → All P D → All P (step D)) → (n : ℕ) (D : List A) → All P D → All P (saturate step n D)

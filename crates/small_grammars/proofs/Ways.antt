@@ -2,7 +2,7 @@
 use Rattle.std.proofs.Common.{◌≡◌, ℕ, suc, ◌+◌, ◌*◌, ◌≤◌, Bool, true, ◌&&◌, List, [], ◌∷◌, ◌++◌, length, get_or, take, Decides, All, sym, refl, ap, ◌∙◌, subst, append_assoc, append-nil, arith, length-append}
 use mathlib.Core.List.{Memᴰ}
 use Rattle.std.specs.List.{flat_map}
-use Rattle.std.proofs.lemmas.List.Elements.{All-append}
+use Rattle.std.proofs.lemmas.List.Elements.{All-nil, All-cons, All-head, All-append}
 use Rattle.std.proofs.lemmas.Bool.Decides.{Decides-like, Decides-and}
 use Rattle.grammar.specs.Grammar.{Grammar, Nonterminal, Kind, At, Known, left_of, right_of, size_of, places}
 use Rattle.grammar.specs.Order.{Conflict}
@@ -120,7 +120,7 @@ module _ (g : Grammar) (A : List (ℕ × ℕ)) (ws : List ℕ) where
         (joined_all W begin_all (below (length g.productions)) (λ p m.
         joined_all W (begin_by p) (below (suc (length ws))) (λ i n.
         let l = from_below (suc (length ws)) i n in
-        (begin_way p i (from_below (length g.productions) p m) (omega arith), tt))))
+        All-cons W _ [] (begin_way p i (from_below (length g.productions) p m) (omega arith)) (All-nil W))))
         (joined_all W (found_by D) D (λ y m.
         let before = all_of W D h m in
         All-append W _ _ (read_way y before) (joined_all W (join_by y) D (λ z n. join_way y z before (all_of W D h n)))))
@@ -143,7 +143,7 @@ module _ (g : Grammar) (A : List (ℕ × ℕ)) (ws : List ℕ) where
       begin_in : (p i : ℕ) → Known g p → i ≤ length ws → In (found (entry p 0 i i) bare)
       begin_in p i known inside =
           let r = all_joined In begin_all (below (length g.productions)) (all_parts In (flat_map begin_all (below (length g.productions))) (flat_map (found_by D) D) h).0 (into_below (length g.productions) p known) in
-          (all_joined In (begin_by p) (below (suc (length ws))) r (into_below (suc (length ws)) i (omega arith))).0
+          All-head In (found (entry p 0 i i) bare) [] (all_joined In (begin_by p) (below (suc (length ws))) r (into_below (suc (length ws)) i (omega arith)))
 
       read_in : (p k i j a : ℕ) (f : Forest) → In (found (entry p k i j) f) → At (right_of g p) k a → Kind a → At ws j a → In (found (entry p (suc k) i (suc j)) (with_leaf f a))
       read_in p k i j a f m at kind here =
@@ -191,7 +191,7 @@ module _ (g : Grammar) (A : List (ℕ × ℕ)) (ws : List ℕ) where
     -- ---- exactly the ways are found
 
     pub found_way : {x : Found} → Memᴰ x ways → IsWay g ws x
-    found_way = all_of W ways (saturate_all same_found W found_step found_keeps steps [] tt)
+    found_way = all_of W ways (saturate_all same_found W found_step found_keeps steps [] (All-nil W))
 
     pub way_found :
         ways_closed ≡ true →

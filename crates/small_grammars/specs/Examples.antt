@@ -17,6 +17,9 @@ pub record Examples : Type 0 where
   pub nonassociative_is_is : ¬ Viable nonassociative_grammar (17 ∷ 16 ∷ 17 ∷ []) 16
   pub left_and_right_is : Next left_and_right_grammar (17 ∷ 16 ∷ 17 ∷ []) true 0
   pub left_and_right_is_is : ¬ Viable left_and_right_grammar (17 ∷ 16 ∷ 17 ∷ []) 16
+
+-- what whole lines list, how many trees they have and what they cost; each field is named by the grammar
+pub record LineExamples : Type 0 where
   -- NAME or NAME and NAME
   pub conditions_lists : Lists conditions_grammar (21 ∷ 16 ∷ 21 ∷ 17 ∷ 21 ∷ []) (row 1 0 5 ∷ row 5 0 1 ∷ row 2 2 5 ∷ row 5 2 3 ∷ row 5 4 5 ∷ [])
   pub conditions_costs : Costs conditions_grammar (21 ∷ 16 ∷ 21 ∷ 17 ∷ 21 ∷ []) 8

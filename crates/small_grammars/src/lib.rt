@@ -2,9 +2,14 @@
 
 #![tactic(auto)]
 
-ghost use Rattle.small_grammars.specs.Examples.{SmallGrammars};
+ghost use Rattle.small_grammars.specs.Examples.{LineExamples, SmallGrammars};
 
 // The examples hold.
 pub fn small_grammars()
     ensures { SmallGrammars }
+{}
+
+// The examples of whole lines hold.
+pub fn small_lines()
+    ensures { LineExamples }
 {}

@@ -6,7 +6,7 @@ use Rattle.scales.specs.declared.values.Count.{Count}
 use Rattle.scales.specs.ThreeScales.{count}
 use Rattle.score_theory.specs.Scores.{Score}
 use Rattle.small_grammars.specs.Parses.{Trees}
-use Rattle.small_grammars.proofs.Examples.{examples}
+use Rattle.small_grammars.proofs.Examples.{small_lines}
 use Rattle.reading.specs.Readings.{Long}
 use Rattle.clients.proofs.Conditions.{or_and}
 use Rattle.clients.proofs.Answering.{trees_sentence}
@@ -23,7 +23,7 @@ returns c =
       t.scored.2,
     ) in
     record {
-      conditions = counted _ 0 examples.conditions_trees;
-      unruled = counted _ 1 examples.unruled_conditions_trees;
+      conditions = counted _ 0 small_lines.conditions_trees;
+      unruled = counted _ 1 small_lines.unruled_conditions_trees;
       short = λ n. c.score_words.ensures.short n;
     }
