@@ -22,7 +22,12 @@ mod scores;
 #[cfg(test)]
 mod writing;
 
-ghost use Rattle.examples.specs.Examples.{ProvedExamples};
+ghost use Rattle.examples.specs.Examples.{LeadingToItselfRefused, ProvedExamples};
+
+// With A = B A accepted, B = with nothing is refused: A would lead to itself.
+pub fn leading_to_itself_is_refused()
+    ensures { LeadingToItselfRefused }
+{}
 
 // The examples of small grammars hold: what may come next, what lines list, how many trees they have and what they cost, and
 // that with A = B A accepted, B = with nothing is refused, since A would lead to itself.

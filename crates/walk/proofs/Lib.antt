@@ -1,5 +1,1 @@
-mod Buffering
-mod Cutting
-mod Parts
-mod Putting
-mod Verdicts
+mod Counting

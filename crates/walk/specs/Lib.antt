@@ -1,4 +1,2 @@
-pub mod Buffers
+pub mod Lines
 pub mod Reports
-pub mod Sessions
-pub mod Verdicts

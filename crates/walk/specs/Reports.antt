@@ -7,11 +7,11 @@ use Rattle.file_model.specs.Files.{fault, Reads}
 use Rattle.walk.specs.declared.outcome.Outcome.{Outcome}
 use Rattle.walk.specs.declared.outcome.Outcome.TheVariants.{Read, Refused}
 
--- reading the text as a grammar file leaves the spelled grammar, with so many productions and rules, or refuses it at this line
-abbrev pub OutcomeOf : List ℕ → Spelled → Outcome → Type 0
-OutcomeOf text s (Read version productions rules) =
-    Reads text (Ok version) s × (productions ≡ length s.draft.productions) × (rules ≡ length s.draft.rules)
-OutcomeOf text s (Refused number line) = (e : Refusal) × Reads text (Err (fault e line)) s × (number ≡ number_of_lem e)
+-- the text reads as a grammar file with so many productions and rules, or with this refusal at this line
+abbrev pub OutcomeOf : List ℕ → Outcome → Type 0
+OutcomeOf text (Read version productions rules) =
+    (s : Spelled) × Reads text (Ok version) s × (productions ≡ length s.draft.productions) × (rules ≡ length s.draft.rules)
+OutcomeOf text (Refused number line) = (s : Spelled) × (e : Refusal) × Reads text (Err (fault e line)) s × (number ≡ number_of_lem e)
 
 -- the line that is printed
 abbrev pub report : Outcome → List ℕ

@@ -1,5 +1,4 @@
 ghost use Rattle.std.specs.Prelude.{Some};
-ghost use Rattle.files.specs.Model.{model};
 ghost use Rattle.walk.specs.Reports.{report, OutcomeOf};
 
 use files::spelled::SpelledDraft;
@@ -34,10 +33,11 @@ impl fmt::Display for Outcome {
     }
 }
 
-// Reads the text as a grammar file into the book, and answers what that gives.
-pub(crate) fn read_book(book: &mut SpelledDraft, text: &[u8]) -> Outcome
-    ensures { OutcomeOf text.now (model book.new) result }
+// What reading the text as a grammar file gives.
+pub fn outcome_of(text: &[u8]) -> Outcome
+    ensures { OutcomeOf text.now result }
 {
+    let mut book = SpelledDraft::new();
     match book.read(text) {
         Ok(version) => Outcome::Read {
             version,

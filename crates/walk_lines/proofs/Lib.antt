@@ -1,0 +1,5 @@
+mod Buffering
+mod Cutting
+mod Parts
+mod Putting
+mod Verdicts

@@ -1,0 +1,70 @@
+-- Verdicts from what the calls of a reading answer. Assumes nothing.
+use Rattle.std.proofs.Common.{◌≡◌, ℕ, ◌+◌, ◌*◌, ◌<◌, ◌≤◌, Bool, true, false, List, length, Ok, Err, Result, sym, refl, ap, ◌∙◌, subst, arith}
+use Rattle.std.proofs.lemmas.Bool.{true≢false}
+use Rattle.grammar.specs.declared.refusals.ReadingRefusal.{ReadingRefusal}
+use Rattle.grammar.specs.declared.refusals.ReadingRefusal.TheVariants.{ShortChart}
+use Rattle.grammar.specs.declared.refusals.Refusal.TheVariants.{Reading as Layer}
+use Rattle.grammar.specs.Refusals.{number as number_of_lem}
+use Rattle.theory.specs.Claims.{Sentence}
+use Rattle.scales.specs.ThreeScales.{count, price}
+use Rattle.scales.specs.declared.values.Count.{Count}
+use Rattle.scales.specs.declared.values.Price.{Price}
+use Rattle.score_theory.specs.Scores.{Score}
+use Rattle.reading.specs.declared.reading.Reading.{Reading}
+use Rattle.reading.specs.Readings.{Long, Marks, Looked, ScoreCause, chart_too_short, table_too_short, ScoreRefused, words, cells, grammar_of}
+use Rattle.walk_lines.specs.declared.score_tables.Scores.{Scores}
+use Rattle.walk_lines.specs.declared.verdict.Verdict.TheVariants.{Read, Refused}
+use Rattle.walk_lines.specs.Verdicts.{TablesShort, BothScores, WordsJudged, chart_short, no_sentence, tables_short, scored}
+
+module _ (r : Reading) where
+  -- a refused score
+  pub refused_scores : (a : Result Scores ReadingRefusal) (n : ℕ) (e f : ReadingRefusal) → n ≡ 8000 → a ≡ Err f → f ≡ e → ScoreRefused r n (Err e) → BothScores r a
+  refused_scores a n e f m i j h =
+      subst (λ b. BothScores r b) (sym (i ∙ ap Err j)) (subst (λ k. ScoreRefused r k (Err e)) m h)
+
+  -- no cause for a refusal
+  pub long_tables : (n : ℕ) → n ≡ 8000 → ((k : ℕ) → ¬ ScoreCause r n k) → ¬ TablesShort r
+  long_tables n m none t = none 16 (table_too_short (omega arith))
+
+  -- on a long chart only short tables refuse a score
+  short_cause : (n : ℕ) → ScoreCause r 8000 n → Long (cells r) → (16 ≡ n) × TablesShort r
+  short_cause n (chart_too_short h) l = absurd (h l)
+  short_cause n (table_too_short h) l = (refl, h)
+
+  module _ (end : ℕ) where
+    -- a short chart
+    pub judged_short : (e : ReadingRefusal) (n : ℕ) → Looked r (Err e) → n ≡ number_of_lem (Layer e) → WordsJudged r end (Refused n 0)
+    judged_short e n h m =
+        let i : 14 ≡ n = sym (m ∙ ap (λ f. number_of_lem (Layer f)) h.1) in
+        subst (λ k. WordsJudged r end (Refused k 0)) i (chart_short h.0)
+
+    -- no sentence
+    pub judged_none : (s : Bool) (mask n : ℕ) → Looked r (Ok (s, mask)) → (Long (cells r) → Marks r) → s ≡ false → n ≡ 13 → WordsJudged r end (Refused n end)
+    judged_none s mask n h marks f m =
+        subst (λ k. WordsJudged r end (Refused k end)) (sym m)
+        (no_sentence h.0 (λ t. true≢false (sym ((h.1 (marks h.0)).whole.1 t) ∙ f)))
+
+    -- a sentence for which the tables are too short
+    pub judged_unscored :
+        (s : Bool) (mask n : ℕ) (e : ReadingRefusal) →
+        Looked r (Ok (s, mask)) →
+        (Long (cells r) → Marks r) →
+        s ≡ true →
+        BothScores r (Err e) →
+        n ≡ number_of_lem (Layer e) →
+        WordsJudged r end (Refused n 0)
+    judged_unscored s mask n e h marks t b m =
+        let c = short_cause (number_of_lem (Layer e)) b.0 h.0 in
+        subst (λ k. WordsJudged r end (Refused k 0)) (c.0 ∙ sym m) (tables_short h.0 ((h.1 (marks h.0)).whole.0 t) c.1)
+
+    -- a sentence with its scores
+    pub judged_scored :
+        (s : Bool) (mask : ℕ) (x : Scores) →
+        Looked r (Ok (s, mask)) →
+        (Long (cells r) → Marks r) →
+        s ≡ true →
+        BothScores r (Ok x) →
+        WordsJudged r end (Read x.trees x.price)
+    judged_scored s mask x h marks t (c, p, long, a, b, i, j) =
+        subst (λ k. WordsJudged r end (Read k x.price)) (sym i)
+        (subst (λ k. WordsJudged r end (Read c.value k)) (sym j) (scored h.0 ((h.1 (marks h.0)).whole.0 t) long a b))

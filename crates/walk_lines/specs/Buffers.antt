@@ -1,0 +1,19 @@
+-- The bytes of a line as they come in parts. Assumes nothing.
+use Rattle.std.specs.Prelude.{◌≡◌, ℕ, ◌+◌, List, ◌++◌, length, take, Some, None, Option}
+use Rattle.syntax.specs.Free.{FreeOf}
+use Rattle.file_model.specs.Files.{LineOf}
+use Rattle.walk_lines.specs.declared.line_buffer.LineBuffer.{LineBuffer}
+
+-- the bytes that a buffer holds
+abbrev pub held : LineBuffer → List ℕ
+held b = take b.count b.bytes
+
+-- what is kept of a line: its first 16,385 bytes
+abbrev pub kept : List ℕ → List ℕ
+kept = take 16385
+
+-- where the bytes before are held of a line that goes on with the part: up to the first line feed, byte 10, with which so many bytes of
+-- the part are taken, or to the end of the part
+abbrev pub TakesOn : List ℕ → List ℕ → Option ℕ → List ℕ → Type 0
+TakesOn before part (Some n) after = (more : List ℕ) × (rest : List ℕ) × LineOf part more rest × (n ≡ length more + 1) × (after ≡ kept (before ++ more))
+TakesOn before part None after = FreeOf 10 part × (after ≡ kept (before ++ part))

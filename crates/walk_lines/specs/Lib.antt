@@ -1,0 +1,4 @@
+pub mod Buffers
+pub mod Reports
+pub mod Sessions
+pub mod Verdicts
