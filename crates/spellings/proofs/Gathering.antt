@@ -1,11 +1,9 @@
 -- The symbols of a right side, one by one. Assumes nothing.
-use Rattle.std.proofs.Common.{◌≡◌, ℕ, zero, suc, ◌+◌, ◌<◌, ◌≤◌, Bool, true, false, ◌⊎◌, List, [], ◌∷◌, ◌++◌, length, get_or, take, set, sym, refl, ap, ◌∙◌, subst, inl, inr, ⊎_elim, arith}
-use Rattle.std.proofs.lemmas.List.{take_more_set, length_push, append_assoc}
-use Rattle.std.proofs.lemmas.Bool.{true≢false}
+use Rattle.std.proofs.Common.{◌≡◌, ℕ, zero, suc, ◌<◌, ◌≤◌, false, List, [], ◌∷◌, ◌++◌, length, get_or, take, sym, refl, ap, ◌∙◌, subst, inl, inr, ⊎_elim, arith}
 use Rattle.syntax.specs.Syntax.{Spelling, Symbol, nonterminal, spelled, ValidSymbol, ValidSymbols}
 use Rattle.spellings.specs.declared.right.Right.{Right}
 use Rattle.spellings.specs.Reading.{Gathers}
-use Rattle.file_model.specs.Spelled.{First, Declared, StandsFor, RightSide, Unknown, Undeclared}
+use Rattle.file_model.specs.Spelled.{StandsFor, RightSide, Unknown, Undeclared}
 
 -- one more symbol at the end of a right side
 pub right_push : (ws : List Spelling) (ss : List Symbol) (xs : List ℕ) (s : Symbol) (x : ℕ) → RightSide ws ss xs → StandsFor ws s x → RightSide ws (ss ++ s ∷ []) (xs ++ x ∷ [])

@@ -1,5 +1,5 @@
 -- Spellings as they are declared. Assumes nothing.
-use Rattle.std.proofs.Common.{◌≡◌, ℕ, suc, ◌+◌, ◌<◌, ◌≤◌, ◌≢◌, List, [], ◌∷◌, ◌++◌, length, get_or, set, sym, refl, ap, ◌∙◌, subst, arith}
+use Rattle.std.proofs.Common.{◌≡◌, ℕ, ◌+◌, ◌<◌, ◌≤◌, ◌≢◌, List, length, get_or, set, sym, ap, ◌∙◌, subst, arith}
 use native.Mathlib.Decide.{dec_lt}
 use Rattle.std.proofs.lemmas.List.{get_or-set_same, get_or-set_other}
 use Rattle.syntax.specs.declared.spelling.Spelling.{Spelling as Stored}
@@ -7,7 +7,7 @@ use Rattle.syntax.specs.declared.spelling.Spelling.TheVariants.{Name}
 use Rattle.syntax.specs.Syntax.{Spelling, name, ValidSpelling}
 use Rattle.syntax.specs.Model.{spelling}
 use Rattle.draft.proofs.Tables.{counted, looked}
-use Rattle.file_model.specs.Spelled.{First, Declared, DeclareCause, declared_before, spellings_full, SoundSpellings}
+use Rattle.file_model.specs.Spelled.{Declared, DeclareCause, declared_before, spellings_full, SoundSpellings}
 use Rattle.spellings.specs.declared.spellings.Spellings.{Spellings}
 use Rattle.spellings.specs.Model.{words}
 use Rattle.syntax.proofs.Stored.{spelling_valid}

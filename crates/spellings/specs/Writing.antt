@@ -1,8 +1,7 @@
 -- The symbols of a right side as they are written. Assumes nothing.
-use Rattle.std.specs.Prelude.{ℕ, ◌+◌, ◌<◌, ◌≤◌, List, [], ◌∷◌, ◌++◌, map, length, slice_index}
+use Rattle.std.specs.Prelude.{ℕ, ◌+◌, ◌<◌, ◌≤◌, List, [], ◌∷◌, ◌++◌, length, slice_index}
 use Rattle.std.specs.List.{flat_map}
 use Rattle.syntax.specs.Syntax.{Spelling, Symbol, symbol_text}
-use Rattle.file_model.specs.Spelled.{written}
 
 -- every kind among the symbols has a spelling
 abbrev pub AllSpelled : List Spelling → List ℕ → Type 0

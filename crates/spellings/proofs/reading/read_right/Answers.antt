@@ -1,7 +1,7 @@
-use Rattle.std.proofs.Common.{◌≡◌, ◌+◌, ◌<◌, ◌≤◌, List, [], ◌∷◌, ◌++◌, length, sym, refl, ◌∙◌, arith, rules}
+use Rattle.std.proofs.Common.{◌+◌, ◌<◌, ◌≤◌, [], ◌∷◌, ◌++◌, length, sym, refl, ◌∙◌, arith, rules}
 use Rattle.syntax.specs.Model.{symbol}
 use Rattle.file_lines.specs.Reading.{SemicolonAt}
-use Rattle.file_lines.proofs.RightSides.{Progress, semicolon_part, no_semicolon_part, part_is, no_part, progress_more, behind, room_behind, price_is, whole}
+use Rattle.file_lines.proofs.RightSides.{semicolon_part, no_semicolon_part, part_is, no_part, progress_more, behind, room_behind, price_is, whole}
 use Rattle.spellings.proofs.reading.read_right.Goals as goal
 
 pub returns-then-end-text : goal.returns-then-end-text

@@ -1,8 +1,8 @@
-use Rattle.std.proofs.Common.{◌≡◌, ℕ, ◌<◌, ◌≤◌, List, length, get_or, Ok, Err, sym, refl, ap, ◌∙◌, subst, inl, inr, ⊎_elim, arith}
+use Rattle.std.proofs.Common.{◌≤◌, length, Ok, Err, sym, refl, inl, inr, ⊎_elim, arith}
 use Rattle.grammar.specs.declared.refusals.DraftRefusal.TheVariants.{LongRight}
 use Rattle.grammar.specs.Grammar.{Production}
 use Rattle.syntax.specs.Model.{spelling}
-use Rattle.draft.specs.Calls.{AddsProduction, OutOfRange, right_too_long}
+use Rattle.draft.specs.Calls.{OutOfRange, right_too_long}
 use Rattle.draft.specs.Model.{model as grammar_of}
 use Rattle.draft.proofs.Causes.{below_two, production_none}
 use Rattle.draft.proofs.Tables.{counted}

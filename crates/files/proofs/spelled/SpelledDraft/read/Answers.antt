@@ -1,10 +1,10 @@
-use Rattle.std.proofs.Common.{◌≡◌, ℕ, ◌≤◌, List, length, sym, refl, ap, ◌∙◌, subst, arith}
+use Rattle.std.proofs.Common.{◌≡◌, ap, ◌∙◌, subst, arith}
 use Rattle.file_model.specs.Spelled.{Spelled}
 use Rattle.grammar.specs.Grammar.{Grammar, with_start}
 use Rattle.draft.specs.Model.{model as grammar_of}
 use Rattle.draft.proofs.Causes.{start_taken}
 use Rattle.files.proofs.TextLines.{rest_short}
-use Rattle.file_model.specs.Files.{ReadsFrom, started, Reads, too_long, no_mark, no_start, from_start}
+use Rattle.file_model.specs.Files.{ReadsFrom, started, too_long, no_mark, no_start, from_start}
 use Rattle.spellings.specs.Model.{words}
 use Rattle.files.specs.Model.{model}
 use Rattle.files.proofs.spelled.SpelledDraft.read.Goals as goal

@@ -1,4 +1,4 @@
-use Rattle.std.proofs.Common.{◌≡◌, ℕ, List, sym, refl, subst}
+use Rattle.std.proofs.Common.{ℕ, List, sym, subst}
 use Rattle.files.specs.Model.{model}
 use Rattle.files.specs.Reading.{IsWord, IsProduction, IsRule, ReadsAs}
 use Rattle.files.proofs.LineForms.{of_sort, only_word, only_production, only_rule}

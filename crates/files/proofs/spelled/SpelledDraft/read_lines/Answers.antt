@@ -1,4 +1,4 @@
-use Rattle.std.proofs.Common.{◌≡◌, ℕ, suc, ◌+◌, List, [], length, drop, Ok, sym, refl, ap, ◌∙◌, subst, add-one, arith}
+use Rattle.std.proofs.Common.{ℕ, ◌+◌, List, drop, Ok, sym, subst, add-one, arith}
 use Rattle.std.proofs.lemmas.List.{drop_all}
 use Rattle.file_model.specs.Files.{ReadsFrom, reads_end, reads_cut, reads_on, reads_fault}
 use Rattle.files.specs.Model.{model}

@@ -1,4 +1,4 @@
-use Rattle.std.proofs.Common.{◌≡◌, ℕ, ◌+◌, List, ◌∷◌, sym, refl, ap, ◌∙◌}
+use Rattle.std.proofs.Common.{ℕ, ◌+◌, List, ◌∷◌, sym, refl, ap, ◌∙◌}
 use Rattle.syntax.specs.Syntax.{production_line}
 use Rattle.syntax.proofs.Lines.{render_production}
 use Rattle.files.specs.Reading.{as_form, as_none}

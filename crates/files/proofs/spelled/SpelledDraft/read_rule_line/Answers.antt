@@ -1,6 +1,6 @@
 use Rattle.std.proofs.Common.{Ok, Err, refl}
-use Rattle.syntax.specs.Syntax.{word_line, production_line, rule_line}
-use Rattle.files.specs.Reading.{IsRule, as_form, as_none}
+use Rattle.syntax.specs.Syntax.{rule_line}
+use Rattle.files.specs.Reading.{as_form, as_none}
 use Rattle.files.proofs.LineForms.{rule_part}
 use Rattle.files.proofs.spelled.SpelledDraft.read_rule_line.Goals as goal
 

@@ -1,4 +1,4 @@
-use Rattle.std.proofs.Common.{◌≡◌, ℕ, List, ◌∷◌, Ok, Err, sym, refl, ap, ◌∙◌}
+use Rattle.std.proofs.Common.{ℕ, List, ◌∷◌, Ok, Err, sym, refl, ap, ◌∙◌}
 use Rattle.syntax.specs.Syntax.{word_line}
 use Rattle.syntax.specs.Model.{spelling}
 use Rattle.syntax.proofs.Lines.{render_word}

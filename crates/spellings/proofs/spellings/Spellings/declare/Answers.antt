@@ -1,4 +1,4 @@
-use Rattle.std.proofs.Common.{◌≡◌, ◌+◌, ◌≤◌, length, refl, ap, arith, length-set}
+use Rattle.std.proofs.Common.{◌+◌, refl, ap, arith, length-set}
 use Rattle.syntax.specs.Model.{spelling}
 use Rattle.draft.proofs.Tables.{counted, pushed}
 use Rattle.file_model.specs.Spelled.{declared_before, spellings_full}
@@ -20,7 +20,11 @@ returns-in-Some c =
 pub invariant_of-self : goal.invariant_of-self
 invariant_of-self c =
     let s = c.args.self.now in
-    (simp length-set s.room, (omega arith, (distinct_more s.words s.count (omega arith) s.once c.args.word (omega arith) c.in_default.ensures, tt)))
+    record {
+      room = simp length-set s.room;
+      few = omega arith;
+      once = distinct_more s.words s.count (omega arith) s.once c.args.word (omega arith) c.in_default.ensures;
+    }
 
 pub returns : goal.returns
 returns c =

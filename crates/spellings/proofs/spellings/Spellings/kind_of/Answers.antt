@@ -1,4 +1,4 @@
-use Rattle.std.proofs.Common.{◌≡◌, sym, refl, ◌∙◌, arith, below_more}
+use Rattle.std.proofs.Common.{sym, refl, ◌∙◌, arith, below_more}
 use Rattle.syntax.specs.Syntax.{name}
 use Rattle.syntax.specs.Model.{spelling}
 use Rattle.draft.proofs.Tables.{counted, looked}
