@@ -100,6 +100,8 @@ def turn(path, text, defined, fields):
     lemmas = is_lemmas(path)
     here = set() if lemmas or path.endswith(".rt") else set(TOP.findall(text))
     ghost_uses = set(ID.findall(" ".join(re.findall(r"ghost use [^;]*\{([^}]*)\}", text))))
+    used = "\n".join(re.findall(r"(?m)^(?:ghost )?use [^\n]*", text))
+    aliases = set(re.findall(r" as ([A-Za-z][\w'?]*(?:-[\w'?]+)+)", used))
     turned, kept = {}, set()
 
     def new_name(piece, m):
@@ -119,6 +121,8 @@ def turn(path, text, defined, fields):
                 pass
             else:
                 return name
+        elif name in aliases:
+            pass
         elif name in outside or name in goals:
             return name
         elif not (name in defined or name in fields or name in here or ("-" in name and (lemmas or spelled(name, text) in defined))):

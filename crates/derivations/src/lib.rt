@@ -8,7 +8,7 @@ ghost use Rattle.grammar.specs.Grammar.{Nonterminal};
 ghost use Rattle.grammar.specs.Order.{Above};
 ghost use Rattle.grammar.specs.Derivations.{Nullable, Leads, LeadsOn};
 ghost use Rattle.grammar.specs.Sound.{Acyclic, Ordered};
-ghost use Rattle.grammar.specs.Model.{production as production-of, productions as productions-of, rule as rule-of, rules as rules-of};
+ghost use Rattle.grammar.specs.Model.{production as production_of, productions as productions_of, rule as rule_of, rules as rules_of};
 ghost use Rattle.bitset.specs.Bits.{Has};
 ghost use Rattle.bitset.specs.Relations.{Holds};
 ghost use Rattle.derivations.specs.Ranges.{Lefts, Between, Numbers};
@@ -34,9 +34,9 @@ fn all_in(symbols: &[u8], set: u32) -> bool
 
 // The set with the left side of the production, if every symbol of the right side is in the set.
 fn with_production(set: u32, p: &Production) -> u32
-    requires { Nonterminal (production-of p.now).left }
+    requires { Nonterminal (production_of p.now).left }
     ensures holds { (s : ℕ) →
-        Has result s ↔ (Has set s ⊎ ((s ≡ (production-of p.now).left) × EveryIn set (production-of p.now).right)) }
+        Has result s ↔ (Has set s ⊎ ((s ≡ (production_of p.now).left) × EveryIn set (production_of p.now).right)) }
     ensures grows { set ≤ result }
 {
     if all_in(p.right(), set) {
@@ -48,10 +48,10 @@ fn with_production(set: u32, p: &Production) -> u32
 
 // One pass: each production in turn adds its left side to the set.
 fn pass(productions: &[Production], set: u32) -> u32
-    requires { Lefts (productions-of productions.now) }
+    requires { Lefts (productions_of productions.now) }
     ensures grows { set ≤ result }
-    ensures sound { SoundSet (productions-of productions.now) set → SoundSet (productions-of productions.now) result }
-    ensures closed { result ≡ set → (k : ℕ) → k < length productions.now → ClosedAt (productions-of productions.now) set k }
+    ensures sound { SoundSet (productions_of productions.now) set → SoundSet (productions_of productions.now) result }
+    ensures closed { result ≡ set → (k : ℕ) → k < length productions.now → ClosedAt (productions_of productions.now) set k }
 {
     let mut grown = set;
     for p in productions {
@@ -62,8 +62,8 @@ fn pass(productions: &[Production], set: u32) -> u32
 
 // The set of the nonterminals that derive the empty list.
 pub fn nullable(productions: &[Production]) -> u32
-    requires { Lefts (productions-of productions.now) }
-    ensures { (s : ℕ) → Has result s ↔ Nullable (productions-of productions.now) s }
+    requires { Lefts (productions_of productions.now) }
+    ensures { (s : ℕ) → Has result s ↔ Nullable (productions_of productions.now) s }
 {
     let mut set = 0;
     loop {
@@ -89,8 +89,8 @@ fn others_in(right: &[u8], k: usize, set: u32) -> bool
 
 // Relates the left side to the symbol at k, if that is a nonterminal and all others are in the set.
 fn put_place(rows: &mut Rows, p: &Production, k: usize, set: u32)
-    requires { (Nonterminal (production-of p.now).left) × (k < length (production-of p.now).right) }
-    ensures { Adds (Holds rows.old) (Holds rows.new) (Passes set (production-of p.now) k) }
+    requires { (Nonterminal (production_of p.now).left) × (k < length (production_of p.now).right) }
+    ensures { Adds (Holds rows.old) (Holds rows.new) (Passes set (production_of p.now) k) }
 {
     let right = p.right();
     let symbol = right[k];
@@ -101,9 +101,9 @@ fn put_place(rows: &mut Rows, p: &Production, k: usize, set: u32)
 
 // The same for each position of the right side.
 fn put_places(rows: &mut Rows, p: &Production, set: u32)
-    requires { Nonterminal (production-of p.now).left }
-    ensures { Gathers (Holds rows.old) (Holds rows.new) (length (production-of p.now).right)
-        (Passes set (production-of p.now)) }
+    requires { Nonterminal (production_of p.now).left }
+    ensures { Gathers (Holds rows.old) (Holds rows.new) (length (production_of p.now).right)
+        (Passes set (production_of p.now)) }
 {
     for k in 0..p.right().len() {
         put_place(rows, p, k, set);
@@ -112,8 +112,8 @@ fn put_places(rows: &mut Rows, p: &Production, set: u32)
 
 // Which nonterminals lead to which in one step.
 pub fn leads(productions: &[Production]) -> Rows
-    requires { Lefts (productions-of productions.now) }
-    ensures { (A B : ℕ) → Holds result A B ↔ Leads (productions-of productions.now) A B }
+    requires { Lefts (productions_of productions.now) }
+    ensures { (A B : ℕ) → Holds result A B ↔ Leads (productions_of productions.now) A B }
 {
     let set = nullable(productions);
     let mut rows = Rows::empty();
@@ -125,9 +125,9 @@ pub fn leads(productions: &[Production]) -> Rows
 
 // Whether a nonterminal leads to itself, in one step or more.
 pub fn leads_to_itself(productions: &[Production]) -> bool
-    requires { Lefts (productions-of productions.now) }
-    ensures yes { result ≡ true → ((A : ℕ) × LeadsOn (productions-of productions.now) A A) }
-    ensures no { result ≡ false → Acyclic (productions-of productions.now) }
+    requires { Lefts (productions_of productions.now) }
+    ensures yes { result ≡ true → ((A : ℕ) × LeadsOn (productions_of productions.now) A A) }
+    ensures no { result ≡ false → Acyclic (productions_of productions.now) }
 {
     let mut rows = leads(productions);
     rows.close();
@@ -137,7 +137,7 @@ pub fn leads_to_itself(productions: &[Production]) -> bool
 // Relates the upper production to the lower one, if the rule is a priority.
 fn put_rule(rows: &mut Rows, rule: &Rule)
     requires { Between rule.now }
-    ensures { Adds (Holds rows.old) (Holds rows.new) (Prefers (rule-of rule.now)) }
+    ensures { Adds (Holds rows.old) (Holds rows.new) (Prefers (rule_of rule.now)) }
 {
     if matches!(rule.relation, Relation::Priority) {
         rows.put(rule.upper as usize - 1, rule.lower as usize - 1);
@@ -147,7 +147,7 @@ fn put_rule(rows: &mut Rows, rule: &Rule)
 // Which productions have priority over which, by the rules or by what follows from them.
 pub fn above(rules: &[Rule]) -> Rows
     requires { Numbers rules.now }
-    ensures { (p q : ℕ) → Holds result p q ↔ Above (rules-of rules.now) p q }
+    ensures { (p q : ℕ) → Holds result p q ↔ Above (rules_of rules.now) p q }
 {
     let mut rows = Rows::empty();
     for rule in rules {
@@ -160,8 +160,8 @@ pub fn above(rules: &[Rule]) -> Rows
 // Whether a production has priority over itself.
 pub fn above_itself(rules: &[Rule]) -> bool
     requires { Numbers rules.now }
-    ensures yes { result ≡ true → ((p : ℕ) × Above (rules-of rules.now) p p) }
-    ensures no { result ≡ false → Ordered (rules-of rules.now) }
+    ensures yes { result ≡ true → ((p : ℕ) × Above (rules_of rules.now) p p) }
+    ensures no { result ≡ false → Ordered (rules_of rules.now) }
 {
     above(rules).has_loop()
 }

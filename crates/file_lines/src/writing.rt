@@ -1,5 +1,5 @@
 ghost use Rattle.std.specs.Prelude.{◌<◌, ◌≤◌, [], ◌∷◌, ◌++◌, length, decimal};
-ghost use Rattle.grammar.specs.Model.{rule as rule-of};
+ghost use Rattle.grammar.specs.Model.{rule as rule_of};
 ghost use Rattle.syntax.specs.Syntax.{word_line, sign, letter, render, mark_line, start_line};
 ghost use Rattle.syntax.specs.Model.{spelling};
 ghost use Rattle.syntax.specs.Writing.{Writes};
@@ -54,7 +54,7 @@ pub fn put_rule_line(out: &mut [u8], at: usize, rule: Rule) -> Result<usize, Fil
     requires within { at ≤ length out.old }
     requires upper { 0 < rule.upper }
     requires lower { 0 < rule.lower }
-    ensures { Writes out.old at (ended (render (rule_form (rule-of rule)))) result out.new }
+    ensures { Writes out.old at (ended (render (rule_form (rule_of rule)))) result out.new }
 {
     let upper_end = put_number(out, at, u16::from(rule.upper))?;
     let lower_at = put_spaced_relation(out, upper_end, rule.relation)?;

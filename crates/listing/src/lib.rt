@@ -4,7 +4,7 @@
 
 ghost use Rattle.std.specs.Prelude.{◌≡◌, ℕ, ◌<◌, ◌≤◌, true, false, length, MatchOption};
 ghost use Rattle.grammar.specs.Grammar.{Grammar};
-ghost use Rattle.grammar.specs.Model.{productions as productions-of};
+ghost use Rattle.grammar.specs.Model.{productions as productions_of};
 ghost use Rattle.grammar.specs.Sound.{WellFormed};
 ghost use Rattle.tables.specs.Meaning.{Means};
 ghost use Rattle.chart.specs.Chart.{Charted};
@@ -63,7 +63,7 @@ pub fn list(
     ensures size { length records.new ≡ length records.old }
     ensures listed { (g : Grammar) →
         Means tables.now g →
-        g.productions ≡ productions-of productions.now →
+        g.productions ≡ productions_of productions.now →
         WellFormed g →
         Charted tables.now g words.now cells.now →
         Listed g words.now records.old result records.new }

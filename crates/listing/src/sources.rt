@@ -2,7 +2,7 @@
 
 ghost use Rattle.std.specs.Prelude.{◌≡◌, ℕ, ◌+◌, ◌<◌, ◌≤◌, true, false, length};
 ghost use Rattle.tables.specs.Meaning.{Waits};
-ghost use Rattle.listing.specs.Asked.{tables_in, words_in, Usable, Inside, right_in, symbol_in, Begun, Whole, Fits, rank_in, weight as weight-of};
+ghost use Rattle.listing.specs.Asked.{tables_in, words_in, Usable, Inside, right_in, symbol_in, Begun, Whole, Fits, rank_in, weight as weight_of};
 
 use chart::items::has;
 use grammar::production::Production;
@@ -102,7 +102,7 @@ fn rank(sources: Sources, p: usize) -> usize
 // What falls from a node to its children: the number of its words, then its rank.
 pub(crate) fn weight(sources: Sources, node: Node) -> usize
     requires { (Usable sources) × (Inside sources node) }
-    ensures { result ≡ weight-of sources.entry node.production node.start node.end }
+    ensures { result ≡ weight_of sources.entry node.production node.start node.end }
 {
     (node.end - node.start) * 17 + rank(sources, node.production)
 }

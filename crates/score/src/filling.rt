@@ -1,6 +1,6 @@
 ghost use Rattle.std.specs.Prelude.{◌≡◌, ◌+◌, ◌-◌, ◌<◌, ◌≤◌, length};
 ghost use Rattle.grammar.specs.Grammar.{places};
-ghost use Rattle.grammar.specs.Model.{productions as productions-of};
+ghost use Rattle.grammar.specs.Model.{productions as productions_of};
 ghost use Rattle.score.specs.Inputs.{productions_in, words_in, Fit, Inside, entries_in, stage};
 ghost use Rattle.score.specs.Filling.{Fills, Blank, AllRight};
 
@@ -87,8 +87,8 @@ fn fill_length<S: Semiring>(input: &Input, table: &mut [S], len: usize)
 
 // How many places the productions have.
 fn count_places(productions: &[Production]) -> usize
-    requires small { places (productions-of productions.now) ≤ 128 }
-    ensures { result ≡ places (productions-of productions.now) }
+    requires small { places (productions_of productions.now) ≤ 128 }
+    ensures { result ≡ places (productions_of productions.now) }
 {
     let mut count = 0;
     for p in productions {

@@ -7,7 +7,7 @@
 
 ghost use Rattle.std.specs.Prelude.{◌≡◌, ◌+◌, ◌*◌, ◌≤◌, length};
 ghost use Rattle.grammar.specs.Grammar.{Grammar, places};
-ghost use Rattle.grammar.specs.Model.{productions as productions-of};
+ghost use Rattle.grammar.specs.Model.{productions as productions_of};
 ghost use Rattle.grammar.specs.Sound.{WellFormed};
 ghost use Rattle.derivations.specs.Ranges.{Lefts};
 ghost use Rattle.tables.specs.Meaning.{Means};
@@ -38,14 +38,14 @@ pub fn score<S: Semiring>(
     table: &mut [S],
 ) -> S
     requires few_words { length words.now ≤ 48 }
-    requires few { length (productions-of productions.now) ≤ 32 }
-    requires small { places (productions-of productions.now) ≤ 128 }
-    requires lefts { Lefts (productions-of productions.now) }
-    requires firsts { Firsts (productions-of productions.now) tables.now.first }
-    requires room { places (productions-of productions.now) * ((length words.now + 1) * (length words.now + 1)) ≤ length table.old }
+    requires few { length (productions_of productions.now) ≤ 32 }
+    requires small { places (productions_of productions.now) ≤ 128 }
+    requires lefts { Lefts (productions_of productions.now) }
+    requires firsts { Firsts (productions_of productions.now) tables.now.first }
+    requires room { places (productions_of productions.now) * ((length words.now + 1) * (length words.now + 1)) ≤ length table.old }
     ensures { (g : Grammar) →
         Means tables.now g →
-        g.productions ≡ productions-of productions.now →
+        g.productions ≡ productions_of productions.now →
         g.start ≡ start →
         WellFormed g →
         Score S.Semiring.scale g words.now result × Filled S.Semiring.scale g words.now table.old table.new }

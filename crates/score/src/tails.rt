@@ -1,5 +1,5 @@
 ghost use Rattle.std.specs.Prelude.{◌≡◌, ◌≤◌, length};
-ghost use Rattle.grammar.specs.Model.{productions as productions-of};
+ghost use Rattle.grammar.specs.Model.{productions as productions_of};
 ghost use Rattle.bitset.specs.Bits.{Has};
 ghost use Rattle.derivations.specs.Ranges.{Lefts};
 ghost use Rattle.score.specs.Tails.{Tail, Tails};
@@ -25,9 +25,9 @@ fn tail(right: &[u8], set: u32) -> u8
 // For each production the least position from which on every symbol may be empty.
 pub(crate) fn tails(productions: &[Production]) -> [u8; 32]
     requires few { length productions.now ≤ 32 }
-    requires lefts { Lefts (productions-of productions.now) }
+    requires lefts { Lefts (productions_of productions.now) }
     ensures whole { length result ≡ 32 }
-    ensures each { Tails (productions-of productions.now) result }
+    ensures each { Tails (productions_of productions.now) result }
 {
     let empty = nullable(productions);
     let mut tails = [0u8; 32];

@@ -1,5 +1,5 @@
 ghost use Rattle.std.specs.Prelude.{◌≡◌, ◌+◌, ◌<◌, ◌≤◌, true, false, map, length};
-ghost use Rattle.grammar.specs.Model.{production as production-of};
+ghost use Rattle.grammar.specs.Model.{production as production_of};
 ghost use Rattle.syntax.specs.Syntax.{word_line, symbol_text, render};
 ghost use Rattle.syntax.specs.Writing.{Writes};
 ghost use Rattle.file_model.specs.Spelled.{written};
@@ -61,9 +61,9 @@ impl Spellings {
         production: &Production,
     ) -> Result<usize, FileRefusal>
         requires within { at ≤ length out.old }
-        requires nonterminal { (production-of production.now).left < 16 }
-        requires spelled { AllSpelled (words self.now) (production-of production.now).right }
-        ensures { Writes out.old at (ended (render (production_form (words self.now) (production-of production.now))))
+        requires nonterminal { (production_of production.now).left < 16 }
+        requires spelled { AllSpelled (words self.now) (production_of production.now).right }
+        ensures { Writes out.old at (ended (render (production_form (words self.now) (production_of production.now))))
             result out.new }
     {
         let begun = put_left(out, at, production.left())?;

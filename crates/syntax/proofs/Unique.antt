@@ -1,13 +1,13 @@
 -- Different values are written differently.
 use Rattle.std.proofs.Common.{◌≡◌, ℕ, ◌≤◌, [], ◌∷◌, ◌++◌, length, get_or, decimal, sym, refl, ap, arith, length-append}
 use Rattle.std.proofs.lemmas.List.{append_cancel_right}
-use Rattle.std.proofs.lemmas.Fmt.{decimal_injective as same-from-decimal}
+use Rattle.std.proofs.lemmas.Fmt.{decimal_injective as same_from_decimal}
 use Rattle.grammar.specs.declared.rule.Relation.{Relation}
 use Rattle.grammar.specs.declared.rule.Relation.TheVariants.{Priority, Left, Right, NonAssoc}
 use Rattle.syntax.specs.Syntax.{Spelling, literal, name, num, Symbol, nonterminal, spelled, letter, spelling_text, symbol_text, sign}
 
 pub decimal_injective : (m n : ℕ) → m ≤ 65535 → n ≤ 65535 → decimal m ≡ decimal n → m ≡ n
-decimal_injective m n h k e = same-from-decimal m n (omega arith) (omega arith) e
+decimal_injective m n h k e = same_from_decimal m n (omega arith) (omega arith) e
 
 pub letter_injective : (s t : ℕ) → letter s ≡ letter t → s ≡ t
 letter_injective s t e = omega (arith, ap (λ l. get_or l 0 0) e)

@@ -1,5 +1,5 @@
 ghost use Rattle.std.specs.Prelude.{◌≡◌, true, false};
-ghost use Rattle.grammar.specs.Model.{rule as rule-of, rules as rules-of};
+ghost use Rattle.grammar.specs.Model.{rule as rule_of, rules as rules_of};
 ghost use Rattle.grammar.specs.Order.{Beside, Conflict};
 ghost use Rattle.derivations.specs.Ranges.{Between, Numbers};
 ghost use Rattle.tables.specs.Conflicts.{Relates, Barred, OrderOf, InGrammars};
@@ -10,8 +10,8 @@ use grammar::rule::{Relation, Rule};
 // Whether the rule has this relation between the two productions, either way round.
 fn relates(rule: &Rule, p: usize, relation: Relation, q: usize) -> bool
     requires { Between rule.now }
-    ensures yes { result ≡ true → Relates (rule-of rule.now) p relation q }
-    ensures no { result ≡ false → ¬ Relates (rule-of rule.now) p relation q }
+    ensures yes { result ≡ true → Relates (rule_of rule.now) p relation q }
+    ensures no { result ≡ false → ¬ Relates (rule_of rule.now) p relation q }
 {
     let upper = rule.upper as usize - 1;
     let lower = rule.lower as usize - 1;
@@ -27,8 +27,8 @@ fn relates(rule: &Rule, p: usize, relation: Relation, q: usize) -> bool
 // Whether a rule has this relation between the two productions, either way round.
 fn beside(rules: &[Rule], p: usize, relation: Relation, q: usize) -> bool
     requires { Numbers rules.now }
-    ensures yes { result ≡ true → Beside (rules-of rules.now) p relation q }
-    ensures no { result ≡ false → ¬ Beside (rules-of rules.now) p relation q }
+    ensures yes { result ≡ true → Beside (rules_of rules.now) p relation q }
+    ensures no { result ≡ false → ¬ Beside (rules_of rules.now) p relation q }
 {
     for rule in rules {
         if relates(rule, p, relation, q) {
@@ -41,8 +41,8 @@ fn beside(rules: &[Rule], p: usize, relation: Relation, q: usize) -> bool
 // Whether the two productions associate by this relation or not at all.
 fn barred(rules: &[Rule], p: usize, relation: Relation, q: usize) -> bool
     requires { Numbers rules.now }
-    ensures yes { result ≡ true → Barred (rules-of rules.now) p relation q }
-    ensures no { result ≡ false → ¬ Barred (rules-of rules.now) p relation q }
+    ensures yes { result ≡ true → Barred (rules_of rules.now) p relation q }
+    ensures no { result ≡ false → ¬ Barred (rules_of rules.now) p relation q }
 {
     if beside(rules, p, relation, q) {
         return true;
@@ -60,9 +60,9 @@ pub(crate) fn conflict(
     q: usize,
 ) -> bool
     requires numbers { Numbers rules.now }
-    requires order { OrderOf above.now (rules-of rules.now) }
-    ensures yes { result ≡ true → InGrammars (rules-of rules.now) p size (λ g. Conflict g p k q) }
-    ensures no { result ≡ false → InGrammars (rules-of rules.now) p size (λ g. ¬ Conflict g p k q) }
+    requires order { OrderOf above.now (rules_of rules.now) }
+    ensures yes { result ≡ true → InGrammars (rules_of rules.now) p size (λ g. Conflict g p k q) }
+    ensures no { result ≡ false → InGrammars (rules_of rules.now) p size (λ g. ¬ Conflict g p k q) }
 {
     if above.has(p, q) {
         return true;

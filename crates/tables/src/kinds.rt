@@ -1,6 +1,6 @@
 ghost use Rattle.std.specs.Prelude.{◌≡◌, ℕ, ◌+◌, ◌<◌, ◌≤◌, length, slice_index};
 ghost use Rattle.grammar.specs.Grammar.{At, places};
-ghost use Rattle.grammar.specs.Model.{productions as productions-of};
+ghost use Rattle.grammar.specs.Model.{productions as productions_of};
 ghost use Rattle.grammar.specs.Sound.{SymbolsInRange};
 ghost use Rattle.derivations.specs.Steps.{Adds, Gathers};
 ghost use Rattle.tables.specs.Entries.{Tabulates, KindNext};
@@ -35,12 +35,12 @@ fn mark_kinds(before: &mut [u64], right: &[u8], first: usize)
 
 // For each kind the places before it.
 pub(crate) fn before(productions: &[Production], first: &[u8]) -> [u64; 64]
-    requires symbols { SymbolsInRange (productions-of productions.now) }
-    requires small { places (productions-of productions.now) ≤ 128 }
-    requires begins { Firsts (productions-of productions.now) first.now }
+    requires symbols { SymbolsInRange (productions_of productions.now) }
+    requires small { places (productions_of productions.now) ≤ 128 }
+    requires begins { Firsts (productions_of productions.now) first.now }
     requires long { length productions.now ≤ length first.now }
     ensures whole { length result ≡ 64 }
-    ensures holds { Tabulates (productions-of productions.now) (KindNext (productions-of productions.now)) result }
+    ensures holds { Tabulates (productions_of productions.now) (KindNext (productions_of productions.now)) result }
 {
     let mut before = [0u64; 64];
     for p in 0..productions.len() {

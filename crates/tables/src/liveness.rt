@@ -1,7 +1,7 @@
 ghost use Rattle.std.specs.Prelude.{◌≡◌, ℕ, ◌+◌, ◌<◌, ◌≤◌, true, false, ◌⊎◌, ◌↔◌, length};
 ghost use Rattle.grammar.specs.Grammar.{left_at, places};
 ghost use Rattle.grammar.specs.Items.{Live};
-ghost use Rattle.grammar.specs.Model.{productions as productions-of};
+ghost use Rattle.grammar.specs.Model.{productions as productions_of};
 ghost use Rattle.grammar.specs.Sound.{SymbolsInRange};
 ghost use Rattle.bitset.specs.Bits.{Has};
 ghost use Rattle.tables.specs.Filling.{Filled, Fillable, FillableAt, WhereWaits, LiveSet};
@@ -55,16 +55,16 @@ fn with_filled(waits: &[u64], set: u32, p: usize, right: &[u8], first: usize) ->
 // One pass: each production in turn comes into the set, if the set fills its right side.
 fn pass(productions: &[Production], first: &[u8], waits: &[u64], set: u32) -> u32
     requires few { length productions.now ≤ 32 }
-    requires small { places (productions-of productions.now) ≤ 128 }
-    requires symbols { SymbolsInRange (productions-of productions.now) }
-    requires begins { Firsts (productions-of productions.now) first.now }
+    requires small { places (productions_of productions.now) ≤ 128 }
+    requires symbols { SymbolsInRange (productions_of productions.now) }
+    requires begins { Firsts (productions_of productions.now) first.now }
     requires long { (length productions.now ≤ length first.now) × (64 ≤ length waits.now) }
     ensures grows { set ≤ result }
-    ensures sound { WhereWaits (productions-of productions.now) waits.now (λ g. LiveSet g set → LiveSet g result) }
+    ensures sound { WhereWaits (productions_of productions.now) waits.now (λ g. LiveSet g set → LiveSet g result) }
     ensures closed { result ≡ set →
         (p : ℕ) →
-        p < length (productions-of productions.now) →
-        FillableAt (productions-of productions.now) waits.now set p →
+        p < length (productions_of productions.now) →
+        FillableAt (productions_of productions.now) waits.now set p →
         Has set p }
 {
     let mut grown = set;
@@ -77,11 +77,11 @@ fn pass(productions: &[Production], first: &[u8], waits: &[u64], set: u32) -> u3
 // The live productions.
 pub(crate) fn live(productions: &[Production], first: &[u8], waits: &[u64]) -> u32
     requires few { length productions.now ≤ 32 }
-    requires small { places (productions-of productions.now) ≤ 128 }
-    requires symbols { SymbolsInRange (productions-of productions.now) }
-    requires begins { Firsts (productions-of productions.now) first.now }
+    requires small { places (productions_of productions.now) ≤ 128 }
+    requires symbols { SymbolsInRange (productions_of productions.now) }
+    requires begins { Firsts (productions_of productions.now) first.now }
     requires long { (length productions.now ≤ length first.now) × (64 ≤ length waits.now) }
-    ensures { WhereWaits (productions-of productions.now) waits.now (λ g. (q : ℕ) → Has result q ↔ Live g q) }
+    ensures { WhereWaits (productions_of productions.now) waits.now (λ g. (q : ℕ) → Has result q ↔ Live g q) }
 {
     let mut set = 0;
     loop {
@@ -98,7 +98,7 @@ pub(crate) fn starts(productions: &[Production], live: u32, start: u8) -> u32
     requires few { length productions.now ≤ 32 }
     ensures { (p : ℕ) →
         Has result p
-        ↔ ((p < length (productions-of productions.now)) × Has live p × (left_at (productions-of productions.now) p ≡ start)) }
+        ↔ ((p < length (productions_of productions.now)) × Has live p × (left_at (productions_of productions.now) p ≡ start)) }
 {
     let mut set = 0;
     for p in 0..productions.len() {

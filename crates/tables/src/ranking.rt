@@ -1,6 +1,6 @@
 ghost use Rattle.std.specs.Prelude.{◌≡◌, ℕ, ◌<◌, ◌≤◌, length, slice_index};
 ghost use Rattle.grammar.specs.Derivations.{Leads};
-ghost use Rattle.grammar.specs.Model.{productions as productions-of};
+ghost use Rattle.grammar.specs.Model.{productions as productions_of};
 ghost use Rattle.grammar.specs.Sound.{Acyclic};
 ghost use Rattle.derivations.specs.Ranges.{Lefts};
 ghost use Rattle.tables.specs.Ranks.{count_below, row_of};
@@ -24,10 +24,10 @@ fn rank(rows: &Rows, symbol: usize) -> u8
 
 // The rank of each nonterminal: the number of nonterminals that it leads to, in one step or more.
 pub(crate) fn ranks(productions: &[Production]) -> [u8; 16]
-    requires lefts { Lefts (productions-of productions.now) }
-    requires acyclic { Acyclic (productions-of productions.now) }
+    requires lefts { Lefts (productions_of productions.now) }
+    requires acyclic { Acyclic (productions_of productions.now) }
     ensures whole { length result ≡ 16 }
-    ensures falls { (A B : ℕ) → Leads (productions-of productions.now) A B → slice_index result B < slice_index result A }
+    ensures falls { (A B : ℕ) → Leads (productions_of productions.now) A B → slice_index result B < slice_index result A }
     ensures small { (A : ℕ) → slice_index result A ≤ 16 }
 {
     let mut rows = leads(productions);

@@ -1,6 +1,6 @@
 ghost use Rattle.std.specs.Prelude.{◌≡◌, ℕ, ◌<◌, ◌≤◌, true, false, ◌↔◌, length};
 ghost use Rattle.grammar.specs.Grammar.{places, right_at};
-ghost use Rattle.grammar.specs.Model.{productions as productions-of, rules as rules-of};
+ghost use Rattle.grammar.specs.Model.{productions as productions_of, rules as rules_of};
 ghost use Rattle.bitset.specs.Bits.{Has};
 ghost use Rattle.derivations.specs.Ranges.{Lefts, Numbers};
 ghost use Rattle.derivations.specs.Steps.{Adds};
@@ -26,13 +26,13 @@ fn admits(
     q: usize,
 ) -> bool
     requires numbers { Numbers rules.now }
-    requires order { OrderOf above.now (rules-of rules.now) }
-    requires lefts { Lefts (productions-of productions.now) }
+    requires order { OrderOf above.now (rules_of rules.now) }
+    requires lefts { Lefts (productions_of productions.now) }
     requires parent { p < length productions.now }
-    requires position { k < length (right_at (productions-of productions.now) p) }
+    requires position { k < length (right_at (productions_of productions.now) p) }
     requires child { q < length productions.now }
-    ensures yes { result ≡ true → AnyStart (productions-of productions.now) (rules-of rules.now) (λ g. Admits g p k q) }
-    ensures no { result ≡ false → AnyStart (productions-of productions.now) (rules-of rules.now) (λ g. ¬ Admits g p k q) }
+    ensures yes { result ≡ true → AnyStart (productions_of productions.now) (rules_of rules.now) (λ g. Admits g p k q) }
+    ensures no { result ≡ false → AnyStart (productions_of productions.now) (rules_of rules.now) (λ g. ¬ Admits g p k q) }
 {
     let right = productions[p].right();
     if right[k] != productions[q].left() {
@@ -44,12 +44,12 @@ fn admits(
 // The productions that may stand at position k of the production p.
 fn admitted(productions: &[Production], rules: &[Rule], above: &Rows, p: usize, k: usize) -> u32
     requires numbers { Numbers rules.now }
-    requires order { OrderOf above.now (rules-of rules.now) }
-    requires lefts { Lefts (productions-of productions.now) }
+    requires order { OrderOf above.now (rules_of rules.now) }
+    requires lefts { Lefts (productions_of productions.now) }
     requires few { length productions.now ≤ 32 }
     requires parent { p < length productions.now }
-    requires position { k < length (right_at (productions-of productions.now) p) }
-    ensures { AnyStart (productions-of productions.now) (rules-of rules.now) (λ g. (q : ℕ) → Has result q ↔ WaitsFor g p k q) }
+    requires position { k < length (right_at (productions_of productions.now) p) }
+    ensures { AnyStart (productions_of productions.now) (rules_of rules.now) (λ g. (q : ℕ) → Has result q ↔ WaitsFor g p k q) }
 {
     let mut set = 0;
     for q in 0..productions.len() {
@@ -70,14 +70,14 @@ fn mark_production(
     first: usize,
 )
     requires numbers { Numbers rules.now }
-    requires order { OrderOf above.now (rules-of rules.now) }
-    requires lefts { Lefts (productions-of productions.now) }
+    requires order { OrderOf above.now (rules_of rules.now) }
+    requires lefts { Lefts (productions_of productions.now) }
     requires few { length productions.now ≤ 32 }
-    requires small { places (productions-of productions.now) ≤ 128 }
+    requires small { places (productions_of productions.now) ≤ 128 }
     requires parent { p < length productions.now }
-    requires place { first ≡ first_place (productions-of productions.now) p }
+    requires place { first ≡ first_place (productions_of productions.now) p }
     requires room { 64 ≤ length waits.old }
-    ensures { AnyStart (productions-of productions.now) (rules-of rules.now)
+    ensures { AnyStart (productions_of productions.now) (rules_of rules.now)
         (λ g. Adds (Marked waits.old) (Marked waits.new) (Row g.productions (WaitsFor g) p)) }
 {
     for k in 0..productions[p].right().len() {
@@ -93,14 +93,14 @@ pub(crate) fn waits(
     first: &[u8],
 ) -> [u64; 64]
     requires numbers { Numbers rules.now }
-    requires order { OrderOf above.now (rules-of rules.now) }
-    requires lefts { Lefts (productions-of productions.now) }
+    requires order { OrderOf above.now (rules_of rules.now) }
+    requires lefts { Lefts (productions_of productions.now) }
     requires few { length productions.now ≤ 32 }
-    requires small { places (productions-of productions.now) ≤ 128 }
-    requires begins { Firsts (productions-of productions.now) first.now }
+    requires small { places (productions_of productions.now) ≤ 128 }
+    requires begins { Firsts (productions_of productions.now) first.now }
     requires long { length productions.now ≤ length first.now }
     ensures whole { length result ≡ 64 }
-    ensures holds { AnyStart (productions-of productions.now) (rules-of rules.now)
+    ensures holds { AnyStart (productions_of productions.now) (rules_of rules.now)
         (λ g. Tabulates g.productions (WaitsFor g) result) }
 {
     let mut waits = [0u64; 64];
