@@ -1,25 +1,20 @@
 -- Readings of grammars with the same content agree. Assumes nothing.
 use Rattle.std.proofs.Common.{◌≡◌, ℕ, ◌+◌, ◌<◌, Bool, true, false, ◌↔◌, List, [], ◌∷◌, map, length, Ok, Err, Result, sym, refl, ap, ◌∙◌, subst, arith}
 use Rattle.grammar.specs.declared.refusals.ReadingRefusal.{ReadingRefusal}
-use Rattle.grammar.specs.declared.refusals.Refusal.TheVariants.{Reading as Layer}
 use Rattle.grammar.specs.Grammar.{Grammar}
-use Rattle.grammar.specs.Refusals.{number}
-use Rattle.grammar.specs.Sound.{WellFormed}
 use Rattle.theory.specs.Claims.{Viable}
 use Rattle.scales.specs.Scales.{Scale, SemiringLaws}
-use Rattle.score_theory.specs.Totals.{Commutative}
 use Rattle.score_theory.specs.Scores.{Score, product}
 use Rattle.score_theory.proofs.SameTotals.{one_total}
 use Rattle.reading.specs.declared.reading.Reading.{Reading}
 use Rattle.reading.specs.Calls.{Puts}
-use Rattle.reading.specs.Readings.{words, grammar_of, Refused, Put, Sees, Looked, ScoreCause, chart_too_short, table_too_short, Scored}
-use Rattle.sameness.specs.Sames.{Same, More}
+use Rattle.reading.specs.Readings.{words, grammar_of, Sees, Looked, ScoreCause, chart_too_short, table_too_short, Scored}
+use Rattle.sameness.specs.Sames.{Same}
 use Rattle.sameness.proofs.Equivalence.{same_reading, more_reading}
 use Rattle.sameness.proofs.Scoring.{same_scores}
-use Rattle.agreement.specs.declared.call.Call.{Call}
 use Rattle.agreement.specs.declared.call.Call.TheVariants.{Put as put_call}
 use Rattle.agreement.specs.Histories.{Plain, changes, PlainlyPlayed, put_step, played_none, played_more, Stands}
-use Rattle.agreement.specs.Agreement.{Refuses, PutsAgree, LooksAlike, TableLong, OneScore, Agree, AllTaken, TakesMore, Agreement}
+use Rattle.agreement.specs.Agreement.{Refuses, PutsAgree, LooksAlike, TableLong, OneScore, Agree, AllTaken, Agreement}
 use Rattle.agreement.proofs.Fixing.{same_put, refused_when, taken_too}
 use Rattle.agreement.proofs.Working.{formed, Ready, puts_by, put_ready, history_works, ready, one_working}
 

@@ -1,13 +1,13 @@
 -- The grammar, the words and the call fix the answer. Assumes nothing.
-use Rattle.std.proofs.Common.{◌≡◌, ℕ, ◌+◌, ◌<◌, ◌≤◌, cond, eqb, ◌⊎◌, ◌↔◌, List, [], ◌∷◌, ◌++◌, length, Ok, Err, Result, sym, refl, ap, ◌∙◌, subst, inl, inr, arith}
+use Rattle.std.proofs.Common.{◌≡◌, ℕ, ◌<◌, cond, eqb, ◌↔◌, List, [], ◌∷◌, ◌++◌, length, Ok, Err, Result, sym, refl, ap, ◌∙◌, arith}
 use Rattle.std.proofs.lemmas.List.{same_from_push}
 use Rattle.grammar.specs.declared.refusals.ReadingRefusal.{ReadingRefusal}
 use Rattle.grammar.specs.declared.refusals.ReadingRefusal.TheVariants.{LineFull, NoKind, NothingBegins, NoWord, NoSentence, ShortChart, ShortListing, ShortTable}
 use Rattle.grammar.specs.declared.refusals.Refusal.TheVariants.{Reading as Layer}
-use Rattle.grammar.specs.Grammar.{Grammar, Kind}
+use Rattle.grammar.specs.Grammar.{Grammar}
 use Rattle.grammar.specs.Refusals.{number, Answered}
 use Rattle.theory.specs.Claims.{Viable}
-use Rattle.reading.specs.Calls.{Puts, TakesBack, PutCause, line_full, no_kind, nothing_begins, BackCause, no_word}
+use Rattle.reading.specs.Calls.{Puts, TakesBack, PutCause, line_full, no_kind, nothing_begins}
 use Rattle.reading.specs.Readings.{Refused}
 use Rattle.theory.proofs.Leaves.{viable_kind}
 

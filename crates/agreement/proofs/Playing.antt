@@ -1,11 +1,10 @@
 -- Steps and calls one after the other. Assumes nothing.
-use Rattle.std.proofs.Common.{◌≡◌, ℕ, ◌+◌, ◌<◌, Bool, List, [], ◌∷◌, ◌++◌, map, length, get_or, take, drop, set, Ok, Err, Result, sym, refl, ap, ◌∙◌, subst, arith}
+use Rattle.std.proofs.Common.{◌≡◌, ℕ, ◌+◌, ◌<◌, Bool, List, [], ◌∷◌, ◌++◌, map, length, get_or, take, drop, set, Ok, Err, Result, sym, ap, ◌∙◌, subst, arith}
 use Rattle.std.proofs.lemmas.List.{take_more, take_more_set, drop-set-lt, drop-drop}
 use Rattle.grammar.specs.declared.refusals.ReadingRefusal.{ReadingRefusal}
 use Rattle.scales.specs.Scales.{Scale}
-use Rattle.listing_theory.specs.declared.record.Record.{Record}
 use Rattle.reading.specs.declared.reading.Reading.{Reading}
-use Rattle.reading.specs.Readings.{Put, TakenFromEnd, Looked, Listed, Scored, ScoreRefused, without_value}
+use Rattle.reading.specs.Readings.{Put, TakenFromEnd, Looked, Scored, without_value}
 use Rattle.agreement.specs.declared.call.Call.{Call}
 use Rattle.agreement.specs.declared.call.Call.TheVariants.{Put as put_call, TakeBack as back_call, Look as look_call, List as list_call, Score as score_call}
 use Rattle.agreement.specs.declared.answer.Answer.{Answer}

@@ -1,5 +1,5 @@
 -- The chart of a reading with a history marks the words that stand, and its calls are answered as they work out. Assumes nothing.
-use Rattle.std.proofs.Common.{◌≡◌, ℕ, ◌↔◌, List, [], ◌∷◌, length, Result, sym, refl, ap, ◌∙◌, subst, arith}
+use Rattle.std.proofs.Common.{◌≡◌, ℕ, ◌↔◌, List, [], ◌∷◌, Result, sym, refl, ap, ◌∙◌, subst, arith}
 use Rattle.grammar.specs.declared.refusals.ReadingRefusal.{ReadingRefusal}
 use Rattle.grammar.specs.Grammar.{Grammar}
 use Rattle.grammar.specs.Sound.{WellFormed}
@@ -10,7 +10,7 @@ use Rattle.reading.specs.declared.reading.Reading.{Reading}
 use Rattle.reading.specs.Calls.{Puts, TakesBack}
 use Rattle.reading.specs.Readings.{words, cells, grammar_of, Long, Marks, Changes, Put, Opened}
 use Rattle.agreement.specs.declared.call.Call.{Call}
-use Rattle.agreement.specs.Histories.{Plain, changes, PlainlyPlayed, Step, put_step, back_step, look_step, list_step, score_step, Played, played_none, played_more, History, Stands, WorksOut, no_call, put_first, back_first, look_first, list_first, score_first, WorkedOut}
+use Rattle.agreement.specs.Histories.{Plain, changes, PlainlyPlayed, put_step, back_step, look_step, list_step, score_step, played_none, played_more, History, Stands, WorksOut, no_call, put_first, back_first, look_first, list_first, score_first, WorkedOut}
 use Rattle.agreement.proofs.Fixing.{same_put, same_back}
 
 -- a sealed grammar is well-formed

@@ -1,5 +1,5 @@
 -- Bits of `|`, of `1 << d` and of small numbers.
-use Rattle.std.proofs.Common.{◌≡◌, ℕ, ◌+◌, ◌-◌, ◌*◌, ◌/◌, ◌%◌, ◌^◌, ◌<◌, ◌≤◌, max, ◌⊎◌, ◌↔◌, sym, refl, ap, ◌∙◌, subst, inl, inr, ⊎_elim, one-mul, arith}
+use Rattle.std.proofs.Common.{◌≡◌, ℕ, ◌+◌, ◌-◌, ◌/◌, ◌%◌, ◌^◌, ◌<◌, ◌≤◌, max, ◌⊎◌, ◌↔◌, sym, ap, ◌∙◌, subst, inl, inr, ⊎_elim, one-mul, arith}
 use mathlib.Core.Logic.{⊎_map}
 use native.Mathlib.Nat.{div-eq_of_lt}
 use lib.Bits.{bit_and, bit_or, or_step, or_shr, or_add_and, and_mask, and_le_r}

@@ -1,5 +1,5 @@
 -- What a set of nonterminals that derive the empty list says of which nonterminals lead to which.
-use Rattle.std.proofs.Common.{◌≡◌, ℕ, ◌<◌, ◌↔◌, List, length, sym}
+use Rattle.std.proofs.Common.{ℕ, ◌<◌, ◌↔◌, List, length, sym}
 use Rattle.grammar.specs.Grammar.{Production, production_at}
 use Rattle.grammar.specs.Derivations.{Nullable, Leads}
 use Rattle.bitset.specs.Bits.{Has}

@@ -1,10 +1,9 @@
 -- A draft with one production or one rule more. Assumes nothing.
-use Rattle.std.proofs.Common.{◌≡◌, ℕ, suc, ◌+◌, ◌-◌, ◌<◌, ◌≤◌, ◌≢◌, List, [], ◌∷◌, ◌++◌, length, get_or, take, set, sym, refl, ap, ◌∙◌, subst, inl, inr, arith, below_more}
-use native.Mathlib.Decide.{dec_lt}
+use Rattle.std.proofs.Common.{◌≡◌, ℕ, ◌+◌, ◌-◌, ◌<◌, ◌≤◌, ◌≢◌, List, [], ◌∷◌, ◌++◌, length, get_or, take, set, sym, ap, ◌∙◌, subst, inl, arith, below_more}
 use Rattle.std.proofs.lemmas.List.{get_or-set_same, get_or-set_other, get_or-take, length-set, length-take-le}
 use Rattle.grammar.specs.declared.production.Production.{Production as Stored}
 use Rattle.grammar.specs.declared.rule.Rule.{Rule as Numbered}
-use Rattle.grammar.specs.Grammar.{Production, Rule, Grammar, Nonterminal, with_production, with_rule, left_at}
+use Rattle.grammar.specs.Grammar.{Production, Rule, Nonterminal, with_production, with_rule}
 use Rattle.grammar.specs.Model.{production, productions, rule, rules}
 use Rattle.grammar.specs.Sound.{WellFormed}
 use Rattle.derivations.specs.Ranges.{Lefts, Between, Numbers as NumbersBetween}

@@ -1,5 +1,5 @@
 -- When no cause below a number applies. Assumes nothing.
-use Rattle.std.proofs.Common.{◌≡◌, ℕ, suc, ◌<◌, ◌≤◌, length, Ok, Err, Result, arith}
+use Rattle.std.proofs.Common.{◌≡◌, ℕ, ◌<◌, ◌≤◌, length, Ok, Err, Result, arith}
 use Rattle.grammar.specs.declared.refusals.DraftRefusal.{DraftRefusal}
 use Rattle.grammar.specs.declared.rule.Relation.{Relation}
 use Rattle.grammar.specs.Grammar.{Production, Grammar, with_start}

@@ -1,8 +1,6 @@
 -- A draft as its tables are built, and a sealed grammar. Assumes nothing.
-use Rattle.std.proofs.Common.{◌≡◌, ℕ, ◌-◌, ◌<◌, ◌≤◌, List, length, get_or, take, sym, ap, ◌∙◌, subst, arith}
+use Rattle.std.proofs.Common.{◌≡◌, ℕ, ◌-◌, take, sym, subst, arith}
 use Rattle.std.proofs.lemmas.List.{length-take-le, get_or-take}
-use Rattle.grammar.specs.Grammar.{Grammar}
-use Rattle.grammar.specs.Model.{productions, rules}
 use Rattle.grammar.specs.Sound.{WellFormed}
 use Rattle.derivations.specs.Ranges.{Between, Numbers}
 use Rattle.tables.specs.Stored.{grammar_of}
@@ -11,7 +9,6 @@ use Rattle.tables.proofs.Truncating.{means_from}
 use Rattle.theory.proofs.Live.{live?}
 use Rattle.draft.specs.declared.draft.Draft.{Draft}
 use Rattle.draft.specs.declared.sealed.Grammar.{Grammar as Sealed}
-use Rattle.draft.specs.Model.{model}
 use Rattle.draft.specs.Sealed.{sealed_model}
 use Rattle.draft.proofs.Accepting.{well_formed}
 

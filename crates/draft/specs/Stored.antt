@@ -1,5 +1,5 @@
 -- The grammar that a draft's fields hold, and what every draft keeps. Assumes nothing.
-use Rattle.std.specs.Prelude.{◌≡◌, ℕ, ◌<◌, ◌≤◌, ◌⊎◌, List, length, take, slice_index_or}
+use Rattle.std.specs.Prelude.{◌≡◌, ℕ, ◌<◌, ◌≤◌, ◌⊎◌, List, take, slice_index_or}
 use Rattle.grammar.specs.declared.production.Production.{Production as Stored}
 use Rattle.grammar.specs.declared.rule.Rule.{Rule as Numbered}
 use Rattle.grammar.specs.declared.rule.Relation.{Relation}

@@ -1,5 +1,5 @@
 -- How large the lines and places of refusals are. Assumes nothing.
-use Rattle.std.proofs.Common.{◌≡◌, ℕ, suc, ◌+◌, ◌<◌, ◌≤◌, List, [], ◌∷◌, ◌++◌, length, Ok, Err, Result, ap, ◌∙◌, arith}
+use Rattle.std.proofs.Common.{◌≡◌, ℕ, ◌+◌, ◌<◌, ◌≤◌, List, [], ◌∷◌, length, Ok, Err, Result, ap, ◌∙◌, arith}
 use Rattle.std.proofs.lemmas.List.{length-append}
 use Rattle.syntax.specs.Syntax.{Spelling}
 use Rattle.file_model.specs.declared.fault.Fault.{Fault}
@@ -8,7 +8,7 @@ use Rattle.file_model.specs.Files.{LineOf, ReadsFrom, reads_end, reads_cut, read
 use Rattle.reading.specs.declared.reading.Reading.{Reading}
 use Rattle.lines.specs.declared.fault.LineFault.{LineFault}
 use Rattle.lines.specs.Cuts.{Word, bytes_of, Placed, Starts, starts_run, starts_mark, starts_stray, Cuts, cut_end, cut_blank, cut_word}
-use Rattle.lines.specs.Lines.{PutsWord, unknown, refused, PutsWords, all_put, one_refused, one_put, PutsLine, too_long as line_too_long, by_words}
+use Rattle.lines.specs.Lines.{unknown, refused, PutsWords, all_put, one_refused, one_put, PutsLine, too_long as line_too_long, by_words}
 use Rattle.lines.proofs.Nexts.{run_bytes}
 
 -- the line of a fault

@@ -1,5 +1,5 @@
 -- Readings that were opened for a book. Assumes nothing.
-use Rattle.std.proofs.Common.{◌≡◌, ℕ, List, length, Ok, Err, sym, refl, ap, ◌∙◌, subst, arith}
+use Rattle.std.proofs.Common.{◌≡◌, ℕ, List, length, Ok, Err, sym, ap, ◌∙◌, subst, arith}
 use Rattle.grammar.specs.declared.refusals.Refusal.{Refusal}
 use Rattle.grammar.specs.Refusals.{number}
 use Rattle.grammar.specs.Grammar.{Grammar}
@@ -7,7 +7,7 @@ use Rattle.draft.specs.declared.sealed.Grammar.{Grammar as Sealed}
 use Rattle.draft.specs.Sealed.{sealed_model}
 use Rattle.file_model.specs.Spelled.{Spelled}
 use Rattle.reading.specs.declared.reading.Reading.{Reading}
-use Rattle.reading.specs.Readings.{words, cells, grammar_of, Long, Marks, Opened}
+use Rattle.reading.specs.Readings.{words, grammar_of, Long, Opened}
 use Rattle.agreement.proofs.Working.{Ready}
 use Rattle.lines.specs.Lines.{PutsLine, PutsKinds, fault}
 use Rattle.lines.proofs.Putting.{line_kinds, still_ready}

@@ -1,5 +1,5 @@
 -- The model of the plain types. Assumes nothing.
-use Rattle.std.specs.Prelude.{ℕ, ◌-◌, List, map, take}
+use Rattle.std.specs.Prelude.{◌-◌, List, map, take}
 use Rattle.grammar.specs.declared.production.Production.{Production as Stored}
 use Rattle.grammar.specs.declared.rule.Rule.{Rule as Numbered}
 use Rattle.grammar.specs.Grammar.{Production, Rule}

@@ -1,11 +1,11 @@
 -- The kinds of the sorts of words. Assumes nothing.
-use Rattle.std.proofs.Common.{◌≡◌, ℕ, ◌⊎◌, List, Some, None, Option, sym, subst, inl, inr, MatchOption}
+use Rattle.std.proofs.Common.{ℕ, List, Some, None, Option, subst, inl, inr, MatchOption}
 use Rattle.syntax.specs.Syntax.{Spelling, literal, name, num, ValidSpelling}
 use Rattle.file_model.specs.Spelled.{Declared}
 use Rattle.spellings.specs.declared.spellings.Spellings.{Spellings}
 use Rattle.spellings.specs.Model.{words}
 use Rattle.spellings.proofs.Words.{sound_spellings}
-use Rattle.lines.specs.Cuts.{Word, name as name_word, number as number_word, mark as mark_word, stray as stray_word}
+use Rattle.lines.specs.Cuts.{name as name_word, number as number_word, mark as mark_word, stray as stray_word}
 use Rattle.lines.specs.Kinds.{KindBy, KindOf, by_literal, by_number, by_name, FindsKind, FindsRunKind}
 
 -- what can't be a literal is not declared

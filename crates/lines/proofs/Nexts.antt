@@ -2,10 +2,9 @@
 use Rattle.std.proofs.Common.{◌≡◌, ℕ, ◌+◌, ◌-◌, ◌<◌, ◌≤◌, Bool, true, false, cond, List, [], ◌∷◌, length, get_or, take, drop, sym, refl, ap, ◌∙◌, subst, arith}
 use Rattle.std.specs.List.{prefix_len}
 use Rattle.std.proofs.lemmas.List.{drop-drop, drop_more, drop_all, length-take-le, length-drop}
-use Rattle.std.proofs.lemmas.List.Sums.{prefix_len-le-length}
-use Rattle.std.proofs.lemmas.Bool.{eqb-true, eqb-false}
+use Rattle.std.proofs.lemmas.Bool.{eqb-true}
 use Rattle.lines.specs.Bytes.{is_blank, is_letter, is_digit, in_run, is_visible, every, begins}
-use Rattle.lines.specs.Cuts.{Word, name, number, mark, stray, bytes_of, Placed, Run, word_of_run, Starts, starts_run, starts_mark, starts_stray, Cuts, cut_end, cut_blank, cut_word}
+use Rattle.lines.specs.Cuts.{Word, name, number, mark, stray, bytes_of, Placed, word_of_run, Starts, starts_run, starts_mark, starts_stray, Cuts, cut_end, cut_blank, cut_word}
 use Rattle.lines.proofs.Runs.{one_more, run_first}
 
 moved : {at to : ℕ} {text line : List ℕ} {ws : List Placed} → at ≡ to → text ≡ line → Cuts at text ws → Cuts to line ws

@@ -1,5 +1,5 @@
 -- Words put one after the other. Assumes nothing.
-use Rattle.std.proofs.Common.{◌≡◌, ℕ, List, [], ◌∷◌, ◌++◌, map, Ok, Err, Result, sym, refl, ap, ◌∙◌, arith}
+use Rattle.std.proofs.Common.{ℕ, List, [], ◌∷◌, ◌++◌, map, Ok, Err, Result, sym, refl, ap, ◌∙◌, arith}
 use Rattle.std.proofs.lemmas.List.{append-nil, append_assoc}
 use Rattle.grammar.specs.Grammar.{Grammar}
 use Rattle.syntax.specs.Syntax.{Spelling}
@@ -7,12 +7,12 @@ use Rattle.reading.specs.declared.reading.Reading.{Reading}
 use Rattle.reading.specs.Readings.{words, cells, Long, Marks}
 use Rattle.agreement.specs.declared.call.Call.TheVariants.{Put as put_call}
 use Rattle.agreement.specs.declared.answer.Answer.TheVariants.{Put as put_answer}
-use Rattle.agreement.specs.Histories.{Stands, History, put_step, played_none, played_more}
+use Rattle.agreement.specs.Histories.{Stands, put_step, played_none, played_more}
 use Rattle.agreement.proofs.Playing.{played_append}
 use Rattle.agreement.proofs.Working.{Ready, works_out}
 use Rattle.lines.specs.declared.fault.LineFault.{LineFault}
 use Rattle.lines.specs.Cuts.{Placed}
-use Rattle.lines.specs.Lines.{PutsWord, unknown, refused, taken, PutsWords, all_put, one_refused, one_put, PutsLine, too_long, by_words, PutsKinds, no_kinds, one_kind, Leaves, LeavesLine}
+use Rattle.lines.specs.Lines.{unknown, refused, taken, PutsWords, all_put, one_refused, one_put, PutsLine, too_long, by_words, PutsKinds, no_kinds, one_kind, Leaves, LeavesLine}
 
 words_kinds : {ss : List Spelling} {r q : Reading} {ws : List Placed} {a : Result ℕ LineFault} → PutsWords ss r ws a q → PutsKinds r q
 words_kinds all_put = ([], [], played_none)

@@ -1,5 +1,5 @@
 -- The words of a line, with their places. Assumes nothing.
-use Rattle.std.specs.Prelude.{◌≡◌, ℕ, ◌+◌, ◌<◌, Bool, true, false, cond, List, [], ◌∷◌, ◌++◌, length}
+use Rattle.std.specs.Prelude.{◌≡◌, ℕ, ◌+◌, ◌<◌, true, false, cond, List, [], ◌∷◌, ◌++◌, length}
 use Rattle.lines.specs.Bytes.{is_letter, is_digit, in_run, is_visible, every, begins}
 
 -- what stands in a line, by its bytes: a name, a number or a mark, or a byte that no word has

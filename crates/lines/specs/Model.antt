@@ -1,5 +1,5 @@
 -- The words that the stored words are, and what looking for the next one answers. Assumes nothing.
-use Rattle.std.specs.Prelude.{◌≡◌, ℕ, ◌+◌, ◌<◌, ◌≤◌, List, [], ◌∷◌, length, drop, Some, None, Option}
+use Rattle.std.specs.Prelude.{ℕ, ◌+◌, ◌<◌, ◌≤◌, List, [], ◌∷◌, length, drop, Some, None, Option}
 use Rattle.lines.specs.declared.word.Word.{Word as Stored}
 use Rattle.lines.specs.declared.word.Word.TheVariants.{Name, Number, Mark, Stray}
 use Rattle.lines.specs.Cuts.{Word, name, number, mark, stray, bytes_of, Placed, Cuts}

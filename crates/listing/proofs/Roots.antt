@@ -1,5 +1,5 @@
 -- The root that is found, and what is listed from it.
-use Rattle.std.proofs.Common.{◌≡◌, ℕ, ◌+◌, List, ◌++◌, length, drop, Ok, Err, Result, sym, ap, ◌∙◌, subst, arith}
+use Rattle.std.proofs.Common.{◌≡◌, ℕ, List, ◌++◌, length, drop, Ok, Err, Result, sym, ap, ◌∙◌, subst, arith}
 use Rattle.grammar.specs.declared.refusals.ReadingRefusal.{ReadingRefusal}
 use Rattle.grammar.specs.Grammar.{Grammar, Known, left_of}
 use Rattle.grammar.specs.Trees.{Tree}

@@ -1,13 +1,12 @@
 -- What a sealed grammar hands out is the grammar's. Assumes nothing.
-use Rattle.std.proofs.Common.{◌≡◌, ℕ, ◌+◌, ◌*◌, ◌≤◌, List, length, sym, ap, ◌∙◌, subst, arith}
+use Rattle.std.proofs.Common.{◌≡◌, ◌≤◌, List, length, sym, ap, ◌∙◌, subst}
 use Rattle.std.proofs.lemmas.List.{length-map}
 use Rattle.grammar.specs.declared.production.Production.{Production as Stored}
-use Rattle.grammar.specs.Grammar.{Grammar, places}
+use Rattle.grammar.specs.Grammar.{places}
 use Rattle.grammar.specs.Model.{production, productions as productions_of}
 use Rattle.grammar.specs.Sound.{WellFormed}
 use Rattle.derivations.specs.Ranges.{Lefts}
 use Rattle.tables.specs.declared.tables.Tables.{Tables}
-use Rattle.tables.specs.Meaning.{Means}
 use Rattle.tables.specs.Places.{Firsts}
 use Rattle.draft.specs.declared.draft.Draft.{Draft}
 use Rattle.draft.specs.declared.sealed.Grammar.{Grammar as Sealed}

@@ -1,6 +1,6 @@
 -- Why a score is refused, and how many entries it fills. Assumes nothing.
-use Rattle.std.proofs.Common.{◌≡◌, ℕ, ◌+◌, ◌*◌, ◌<◌, ◌≤◌, List, length, sym, ap, ◌∙◌, subst, arith}
-use Rattle.grammar.specs.Grammar.{Grammar, places}
+use Rattle.std.proofs.Common.{◌≡◌, ℕ, ◌+◌, ◌*◌, ◌<◌, ◌≤◌, List, length, ap, ◌∙◌, subst, arith}
+use Rattle.grammar.specs.Grammar.{places}
 use Rattle.draft.specs.declared.draft.Draft.{Draft}
 use Rattle.draft.specs.Model.{model}
 use Rattle.reading.specs.declared.reading.Reading.{Reading}

@@ -1,6 +1,5 @@
 -- The tables of a sealed grammar. Assumes nothing.
 use Rattle.std.proofs.Common.{◌≡◌, ℕ, List, sym, subst}
-use Rattle.grammar.specs.Grammar.{Grammar}
 use Rattle.tables.specs.declared.tables.Tables.{Tables}
 use Rattle.tables.specs.Meaning.{Means}
 use Rattle.chart.specs.Chart.{Charted}

@@ -1,12 +1,12 @@
 -- The standing words and the causes of refusal. Assumes nothing.
-use Rattle.std.proofs.Common.{◌≡◌, ℕ, suc, ◌+◌, ◌-◌, ◌<◌, ◌≤◌, Bool, true, false, ◌↔◌, List, [], ◌∷◌, ◌++◌, length, get_or, take, set, sym, refl, ap, ◌∙◌, subst, arith}
-use Rattle.std.proofs.lemmas.List.{length-take-le, take_more_set, take_more, length_push}
+use Rattle.std.proofs.Common.{◌≡◌, ℕ, ◌+◌, ◌<◌, ◌≤◌, Bool, true, false, ◌↔◌, List, [], ◌∷◌, ◌++◌, length, sym, refl, ap, subst, arith}
+use Rattle.std.proofs.lemmas.List.{length-take-le}
 use Rattle.grammar.specs.Grammar.{Grammar, Kind}
 use Rattle.std.proofs.lemmas.Bool.{false≢true}
 use Rattle.theory.specs.Claims.{Viable, Awaited, Accepted, Sentence}
 use Rattle.theory.proofs.Exact.{sentences, viable_kinds}
 use Rattle.reading.specs.declared.reading.Reading.{Reading}
-use Rattle.reading.specs.Readings.{words, Same, Kept, cells}
+use Rattle.reading.specs.Readings.{words, Same, Kept}
 use Rattle.reading.specs.Calls.{PutCause, line_full, no_kind, nothing_begins, BackCause, no_word}
 
 -- how many words stand

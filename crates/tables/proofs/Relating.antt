@@ -1,5 +1,5 @@
 -- Rules that relate two productions, by index.
-use Rattle.std.proofs.Common.{◌≡◌, ℕ, ◌<◌, ◌⊎◌, List, length, ap, ◌∙◌, inl, inr, ⊎_elim}
+use Rattle.std.proofs.Common.{◌≡◌, ℕ, ◌<◌, List, length, ap, ◌∙◌, inl, inr, ⊎_elim}
 use Rattle.grammar.specs.declared.rule.Relation.{Relation}
 use Rattle.grammar.specs.Grammar.{Rule, no_rule, rule_at}
 use Rattle.grammar.specs.Order.{Ruled, Beside}

@@ -1,5 +1,5 @@
 -- The words of a tree are kinds. Assumes nothing.
-use Rattle.std.proofs.Common.{ℕ, ◌⊎◌, List, sym, refl, subst, inl, inr}
+use Rattle.std.proofs.Common.{ℕ, List, sym, refl, subst, inl, inr}
 use mathlib.Core.List.Memᴰ
 use mathlib.Core.List.{Memᴰ}
 use Rattle.grammar.specs.Grammar.{Grammar, Kind}

@@ -2,7 +2,6 @@
 use Rattle.std.proofs.Common.{◌≡◌, ℕ, ◌+◌, ◌-◌, ◌<◌, ◌≤◌, List, [], ◌∷◌, ◌++◌, length, get_or, take, drop, set, Some, sym, ap, ◌∙◌, arith}
 use native.Mathlib.Decide.{dec_lt}
 use Rattle.std.proofs.lemmas.List.{append-nil, append_assoc, length-take-le, take_all, take-take, take-append-le, take_more, take_more_set, length_push, length-take, length-append, take-append-drop, drop_more, get_or-take}
-use Rattle.syntax.specs.Free.{FreeOf}
 use Rattle.file_model.specs.Files.{LineOf}
 use Rattle.walk_lines.specs.Buffers.{TakesOn}
 

@@ -1,11 +1,11 @@
 -- What putting a line keeps of a reading. Assumes nothing.
-use Rattle.std.proofs.Common.{◌≡◌, ℕ, ◌≤◌, List, length, Ok, Err, Result, sym, refl, ap, ◌∙◌, subst, arith}
+use Rattle.std.proofs.Common.{◌≡◌, ℕ, List, length, Ok, Err, Result, sym, refl, ◌∙◌, subst, arith}
 use Rattle.syntax.specs.Syntax.{Spelling}
 use Rattle.grammar.specs.Refusals.{number as number_of_lem}
 use Rattle.grammar.specs.declared.refusals.ReadingRefusal.{ReadingRefusal}
 use Rattle.draft.specs.declared.sealed.Grammar.{Grammar as Sealed}
 use Rattle.reading.specs.declared.reading.Reading.{Reading}
-use Rattle.reading.specs.Readings.{Long, Marks, Opened, Put, cells}
+use Rattle.reading.specs.Readings.{Long, Marks, Put, cells}
 use Rattle.lines.specs.declared.fault.LineFault.{LineFault}
 use Rattle.lines.specs.Cuts.{Placed}
 use Rattle.lines.specs.Lines.{PutsWord, unknown, refused, taken, PutsWords, all_put, one_refused, one_put, PutsLine, too_long, by_words}

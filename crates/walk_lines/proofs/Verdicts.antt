@@ -1,17 +1,11 @@
 -- Verdicts from what the calls of a reading answer. Assumes nothing.
-use Rattle.std.proofs.Common.{◌≡◌, ℕ, ◌+◌, ◌*◌, ◌<◌, ◌≤◌, Bool, true, false, List, length, Ok, Err, Result, sym, refl, ap, ◌∙◌, subst, arith}
+use Rattle.std.proofs.Common.{◌≡◌, ℕ, Bool, true, false, Ok, Err, Result, sym, refl, ap, ◌∙◌, subst, arith}
 use Rattle.std.proofs.lemmas.Bool.{true≢false}
 use Rattle.grammar.specs.declared.refusals.ReadingRefusal.{ReadingRefusal}
-use Rattle.grammar.specs.declared.refusals.ReadingRefusal.TheVariants.{ShortChart}
 use Rattle.grammar.specs.declared.refusals.Refusal.TheVariants.{Reading as Layer}
 use Rattle.grammar.specs.Refusals.{number as number_of_lem}
-use Rattle.theory.specs.Claims.{Sentence}
-use Rattle.scales.specs.ThreeScales.{count, price}
-use Rattle.scales.specs.declared.values.Count.{Count}
-use Rattle.scales.specs.declared.values.Price.{Price}
-use Rattle.score_theory.specs.Scores.{Score}
 use Rattle.reading.specs.declared.reading.Reading.{Reading}
-use Rattle.reading.specs.Readings.{Long, Marks, Looked, ScoreCause, chart_too_short, table_too_short, ScoreRefused, words, cells, grammar_of}
+use Rattle.reading.specs.Readings.{Long, Marks, Looked, ScoreCause, chart_too_short, table_too_short, ScoreRefused, cells}
 use Rattle.walk_lines.specs.declared.score_tables.Scores.{Scores}
 use Rattle.walk_lines.specs.declared.verdict.Verdict.TheVariants.{Read, Refused}
 use Rattle.walk_lines.specs.Verdicts.{TablesShort, BothScores, WordsJudged, chart_short, no_sentence, tables_short, scored}

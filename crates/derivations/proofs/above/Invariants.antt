@@ -1,4 +1,3 @@
-use Rattle.std.proofs.Common.{get_or}
 use Rattle.grammar.specs.Model.{rules}
 use Rattle.bitset.specs.Relations.{Holds}
 use Rattle.derivations.specs.Steps.{Prefers, Gathers}

@@ -1,4 +1,4 @@
-use Rattle.std.proofs.Common.{◌≡◌, length, take, sym, ap, ◌∙◌, arith, length-set, take_all}
+use Rattle.std.proofs.Common.{ap, ◌∙◌, length-set, take_all}
 use Rattle.engine.specs.Answers.{written}
 use Rattle.engine.proofs.Writing.{write_more}
 use Rattle.engine.proofs.write_records.Goals as goal

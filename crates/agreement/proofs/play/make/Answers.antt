@@ -1,4 +1,4 @@
-use Rattle.std.proofs.Common.{refl, rules}
+use Rattle.std.proofs.Common.{refl}
 use Rattle.agreement.proofs.Playing.{put_made, back_made, look_made, list_made, score_made}
 use Rattle.agreement.proofs.play.make.Goals as goal
 

@@ -1,4 +1,4 @@
-use Rattle.std.proofs.Common.{◌≡◌, ℕ, ◌<◌, ◌≤◌, length, take, drop, sym, refl, ◌∙◌, subst, arith, length-set}
+use Rattle.std.proofs.Common.{◌≡◌, ◌<◌, length, take, drop, refl, ◌∙◌, subst, arith, length-set}
 use borrow.Author.Rules.{scaled_Fits}
 use Rattle.agreement.specs.Histories.{lent, ListsInto, ScoresInto, Played, played_none}
 use Rattle.agreement.proofs.Playing.{played_next, later_kept, goes_on}

@@ -1,4 +1,4 @@
-use Rattle.std.proofs.Common.{◌≡◌, ◌≤◌, List, length, take, drop}
+use Rattle.std.proofs.Common.{◌≡◌, ◌≤◌, length, take, drop}
 use Rattle.agreement.specs.Histories.{lent, ListsInto, ScoresInto, Played}
 use Rattle.agreement.proofs.play.play.Given as goal
 

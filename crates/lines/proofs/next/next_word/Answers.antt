@@ -1,6 +1,6 @@
 use Rattle.std.proofs.Common.{◌≡◌, ◌+◌, ◌-◌, length, take, drop, sym, refl, ap, arith}
 use Rattle.std.specs.List.{prefix_len}
-use Rattle.lines.specs.Bytes.{is_blank, in_run}
+use Rattle.lines.specs.Bytes.{in_run}
 use Rattle.lines.specs.Cuts.{mark, stray}
 use Rattle.lines.specs.Model.{word_of}
 use Rattle.lines.proofs.Runs.{none_first}

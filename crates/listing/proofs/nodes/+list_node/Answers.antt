@@ -1,4 +1,4 @@
-use Rattle.std.proofs.Common.{◌≡◌, ◌+◌, ◌<◌, ◌≤◌, [], length, set, Ok, Err, sym, ap, ◌∙◌, subst, add-zero, arith, length-set}
+use Rattle.std.proofs.Common.{◌+◌, ◌<◌, ◌≤◌, [], length, set, sym, ap, ◌∙◌, subst, add-zero, arith, length-set}
 use Rattle.std.proofs.lemmas.Result.{err_from_is_err_and}
 use Rattle.grammar.specs.Grammar.{size_of}
 use Rattle.listing_theory.specs.Listings.{entry}

@@ -1,6 +1,5 @@
 use Rattle.std.proofs.Common.{◌≡◌, ℕ, ◌≢◌, ◌↔◌, List, sym, refl, ◌∙◌, subst, arith, below_more}
 use Rattle.std.proofs.lemmas.List.{length-set, get_or-set_same, get_or-set_other}
-use Rattle.grammar.specs.Model.{productions}
 use Rattle.bitset.specs.Bits.{Has}
 use Rattle.tables.proofs.Counting.{right_is, stored_at}
 use Rattle.score.specs.Tails.{Tail}

@@ -1,6 +1,5 @@
-use Rattle.std.proofs.Common.{◌≡◌, ℕ, ◌↔◌, subst, arith}
+use Rattle.std.proofs.Common.{◌≡◌, ◌↔◌, subst, arith}
 use mathlib.Core.Logic.Iff
-use Rattle.grammar.specs.Order.{Closure}
 use Rattle.bitset.specs.Relations.{Holds}
 use Rattle.bitset.proofs.Joining.{in_below}
 use Rattle.bitset.proofs.Warshall.{Via, via_more, via_is_closure}

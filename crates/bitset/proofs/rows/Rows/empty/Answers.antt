@@ -1,4 +1,4 @@
-use Rattle.std.proofs.Common.{◌≡◌, sym, refl, subst, arith}
+use Rattle.std.proofs.Common.{refl, subst, arith}
 use Rattle.bitset.specs.Bits.{Has}
 use Rattle.bitset.proofs.Digits.{none_of_zero}
 use Rattle.bitset.proofs.Joining.{zeros}

@@ -1,4 +1,3 @@
-use Rattle.std.proofs.Common.{◌≡◌, ℕ, ◌<◌, ◌≤◌, get_or}
 use Rattle.bitset.proofs.Joining.{Joined}
 use Rattle.bitset.proofs.rows.Rows.join_through.Given as goal
 

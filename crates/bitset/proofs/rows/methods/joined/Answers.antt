@@ -1,4 +1,4 @@
-use Rattle.std.proofs.Common.{refl, inl, inr, ⊎_elim}
+use Rattle.std.proofs.Common.{inl, inr, ⊎_elim}
 use Rattle.bitset.specs.Bits.{Has}
 use Rattle.bitset.proofs.Digits.{or_has}
 use Rattle.bitset.proofs.rows.methods.joined.Goals as goal

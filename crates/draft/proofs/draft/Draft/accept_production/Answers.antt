@@ -1,10 +1,9 @@
-use Rattle.std.proofs.Common.{◌≡◌, suc, ◌+◌, ◌<◌, ◌≤◌, List, [], ◌∷◌, ◌++◌, length, set, sym, refl, ap, ◌∙◌, subst, arith, length-set, rules}
-use Rattle.std.proofs.lemmas.List.{length_push}
-use Rattle.grammar.specs.Grammar.{Production, Grammar, with_production}
-use Rattle.grammar.specs.Model.{production, productions}
+use Rattle.std.proofs.Common.{suc, ◌+◌, ◌<◌, List, set, sym, refl, subst, arith, length-set, rules}
+use Rattle.grammar.specs.Grammar.{Production}
+use Rattle.grammar.specs.Model.{production}
 use Rattle.grammar.specs.Derivations.{LeadsOn}
 use Rattle.grammar.specs.Sound.{WellFormed, Acyclic}
-use Rattle.draft.specs.Calls.{OutOfRange, TooLong, Loops, leads_to_itself}
+use Rattle.draft.specs.Calls.{Loops, leads_to_itself}
 use Rattle.draft.specs.Model.{model}
 use Rattle.draft.specs.Stored.{grammar}
 use Rattle.draft.proofs.Accepting.{well_formed, free_place, longer, grown, lefts}

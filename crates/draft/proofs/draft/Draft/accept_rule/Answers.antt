@@ -1,9 +1,9 @@
-use Rattle.std.proofs.Common.{◌≡◌, suc, ◌+◌, ◌<◌, ◌≤◌, ◌⊎◌, List, [], ◌∷◌, ◌++◌, length, set, sym, refl, ap, ◌∙◌, subst, inl, inr, ⊎_elim, arith, length-set, rules}
-use Rattle.grammar.specs.Grammar.{Rule, Grammar}
+use Rattle.std.proofs.Common.{suc, ◌+◌, ◌<◌, List, set, sym, refl, subst, ⊎_elim, arith, length-set, rules}
+use Rattle.grammar.specs.Grammar.{Rule}
 use Rattle.grammar.specs.Model.{rule}
 use Rattle.grammar.specs.Order.{Above}
 use Rattle.grammar.specs.Sound.{WellFormed, Ordered}
-use Rattle.draft.specs.Calls.{AboveItself, above_itself, NamesNone}
+use Rattle.draft.specs.Calls.{AboveItself, above_itself}
 use Rattle.draft.specs.Model.{model}
 use Rattle.draft.specs.Stored.{grammar}
 use Rattle.draft.proofs.Accepting.{well_formed, free_rule, longer_rules, grown_rules, numbers_kept, between}

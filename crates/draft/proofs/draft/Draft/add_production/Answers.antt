@@ -1,7 +1,6 @@
-use Rattle.std.proofs.Common.{◌≡◌, ℕ, List, sym, refl, ap, ◌∙◌, subst}
+use Rattle.std.proofs.Common.{ℕ, List, sym, refl, subst}
 use Rattle.grammar.specs.Grammar.{Production}
-use Rattle.grammar.specs.Model.{production}
-use Rattle.draft.specs.Calls.{OutOfRange, TooLong, NoRoom, Repeats, symbol_out_of_range, right_too_long, productions_full, sides_repeated, AddsProduction}
+use Rattle.draft.specs.Calls.{OutOfRange, TooLong, NoRoom, Repeats, symbol_out_of_range, right_too_long, productions_full, sides_repeated}
 use Rattle.draft.specs.Model.{model}
 use Rattle.draft.proofs.Causes.{below_one, below_two, below_three, below_four, production_none}
 use Rattle.draft.proofs.Tables.{short}

@@ -1,5 +1,5 @@
-use Rattle.std.proofs.Common.{◌≡◌, refl, inl, inr, ⊎_elim, arith}
-use Rattle.grammar.specs.Model.{rule, production}
+use Rattle.std.proofs.Common.{refl, inl, inr, ⊎_elim, arith}
+use Rattle.grammar.specs.Model.{rule}
 use Rattle.draft.specs.Calls.{rule_repeated, names_no_production, rules_full}
 use Rattle.draft.specs.Model.{model}
 use Rattle.draft.proofs.Causes.{below_repeat, below_names, below_full, rule_none}

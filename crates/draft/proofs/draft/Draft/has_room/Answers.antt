@@ -1,5 +1,5 @@
-use Rattle.std.proofs.Common.{◌≡◌, ◌⊎◌, length, refl, ap, inl, inr, ⊎_elim, arith}
-use Rattle.std.proofs.lemmas.Bool.{true≢false, false≢true, leb-true, leb-false}
+use Rattle.std.proofs.Common.{length, ap, inl, inr, ⊎_elim, arith}
+use Rattle.std.proofs.lemmas.Bool.{false≢true, leb-true, leb-false}
 use Rattle.grammar.specs.Model.{production}
 use Rattle.draft.specs.Model.{model}
 use Rattle.draft.proofs.Tables.{counted, places_push}

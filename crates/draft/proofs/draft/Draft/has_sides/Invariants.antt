@@ -1,6 +1,5 @@
 use Rattle.std.proofs.Common.{◌≡◌, ℕ, ◌<◌}
 use Rattle.grammar.specs.Grammar.{left_at, right_at}
-use Rattle.draft.specs.Stored.{grammar}
 use Rattle.draft.specs.Model.{model}
 use Rattle.draft.proofs.draft.Draft.has_sides.Given as goal
 

@@ -1,6 +1,6 @@
-use Rattle.std.proofs.Common.{◌≡◌, ◌+◌, ◌≤◌, length, get_or, take, sym, ap, ◌∙◌, arith}
+use Rattle.std.proofs.Common.{◌≡◌, ◌+◌, length, take, sym, ap, arith}
 use Rattle.grammar.specs.Grammar.{places}
-use Rattle.grammar.specs.Model.{production, productions}
+use Rattle.grammar.specs.Model.{productions}
 use Rattle.draft.proofs.Tables.{places_more, places_within}
 use Rattle.draft.proofs.draft.Draft.place_count.Goals as goal
 

@@ -1,4 +1,4 @@
-use Rattle.std.proofs.Common.{◌⊎◌, refl, inl, inr, ⊎_elim, arith}
+use Rattle.std.proofs.Common.{inl, inr, ⊎_elim, arith}
 use Rattle.std.proofs.lemmas.Bool.{true≢false, false≢true}
 use Rattle.draft.proofs.draft.adding.in_range.Goals as goal
 

@@ -1,6 +1,5 @@
 use Rattle.std.proofs.Common.{◌≡◌, ℕ, ◌<◌, List, [], ◌∷◌, ◌++◌, length, get_or, take, sym, ap, ◌∙◌, arith, length-set, take_all}
 use Rattle.std.proofs.lemmas.List.{take_more, take_more_set}
-use Rattle.grammar.specs.Grammar.{Production}
 use Rattle.grammar.proofs.production.Production.new.Goals as goal
 
 pub loop-i-preserved : goal.loop-i-preserved

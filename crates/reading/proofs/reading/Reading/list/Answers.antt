@@ -1,7 +1,7 @@
-use Rattle.std.proofs.Common.{◌≡◌, ℕ, ◌≤◌, length, sym, refl, ap, ◌∙◌, subst, arith}
+use Rattle.std.proofs.Common.{length, ap, subst, arith}
 use Rattle.listing.specs.Calls.{Listed as Lists}
 use Rattle.chart.specs.Chart.{Charted}
-use Rattle.reading.specs.Readings.{words, cells, grammar_of, Marks}
+use Rattle.reading.specs.Readings.{cells, grammar_of}
 use Rattle.reading.proofs.Sealed.{means_at, charted_at}
 use Rattle.reading.proofs.Handed.{formed, productions_at, counted}
 use Rattle.reading.proofs.Words.{standing}

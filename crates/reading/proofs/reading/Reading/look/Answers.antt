@@ -1,7 +1,7 @@
-use Rattle.std.proofs.Common.{◌≡◌, ℕ, ◌+◌, ◌<◌, ◌≤◌, Bool, true, false, length, sym, refl, ap, ◌∙◌, subst, arith}
-use Rattle.theory.proofs.Exact.{sentences, viable_kinds}
+use Rattle.std.proofs.Common.{◌+◌, arith}
+use Rattle.theory.proofs.Exact.{viable_kinds}
 use Rattle.bitset.proofs.Digits.{none_of_zero}
-use Rattle.reading.specs.Readings.{words, grammar_of, tables_of, Marks}
+use Rattle.reading.specs.Readings.{words, grammar_of}
 use Rattle.reading.proofs.Sealed.{means_at, charted_at}
 use Rattle.reading.proofs.Words.{standing, whole}
 use Rattle.reading.proofs.reading.Reading.look.Goals as goal

@@ -1,7 +1,6 @@
-use Rattle.std.proofs.Common.{◌≡◌, ℕ, List, [], length, get_or, sym, refl, ap, ◌∙◌, subst}
+use Rattle.std.proofs.Common.{ℕ, List, [], get_or, sym, refl, ap, subst}
 use Rattle.chart.specs.Chart.{Charted, RestKept}
 use Rattle.draft.specs.Sealed.{sealed_model}
-use Rattle.reading.specs.Readings.{Long}
 use Rattle.reading.proofs.Sealed.{means_at, charted_back}
 use Rattle.reading.proofs.reading.Reading.open.Goals as goal
 use Rattle.reading.proofs.reading.Reading.open.Goals.{then-chart_fits, else-chart_fits}

@@ -1,8 +1,8 @@
-use Rattle.std.proofs.Common.{◌≡◌, ℕ, suc, ◌+◌, ◌-◌, ◌<◌, ◌≤◌, List, [], ◌∷◌, ◌++◌, length, take, set, sym, refl, ap, ◌∙◌, subst, arith}
+use Rattle.std.proofs.Common.{◌≡◌, ℕ, suc, ◌+◌, List, length, sym, refl, ap, ◌∙◌, subst, arith}
 use Rattle.std.proofs.lemmas.List.{take_more_set, length_push}
 use Rattle.grammar.specs.Grammar.{Kind}
 use Rattle.chart.specs.Chart.{Charted}
-use Rattle.reading.specs.Readings.{words, cells, grammar_of, tables_of}
+use Rattle.reading.specs.Readings.{words, grammar_of, tables_of}
 use Rattle.reading.specs.Calls.{line_full, no_kind, nothing_begins}
 use Rattle.reading.proofs.Sealed.{means_at, charted_at, charted_back}
 use Rattle.reading.proofs.Words.{standing, same, kept, put_none, viable, awaited, with_kind}

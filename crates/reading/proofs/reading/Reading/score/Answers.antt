@@ -1,8 +1,8 @@
-use Rattle.std.proofs.Common.{◌≡◌, ℕ, ◌+◌, ◌*◌, ◌<◌, ◌≤◌, List, length, sym, refl, ap, ◌∙◌, subst, arith}
+use Rattle.std.proofs.Common.{length, sym, refl, ap, ◌∙◌, subst, arith}
 use Rattle.grammar.specs.Grammar.{places}
 use Rattle.score.specs.Filled.{Filled}
 use Rattle.score_theory.specs.Scores.{Score}
-use Rattle.reading.specs.Readings.{words, cells, grammar_of, ScoreCause, chart_too_short, table_too_short}
+use Rattle.reading.specs.Readings.{grammar_of, ScoreCause, chart_too_short, table_too_short}
 use Rattle.reading.proofs.Sealed.{means_at}
 use Rattle.reading.proofs.Handed.{formed, productions_at, start_at, few, small, lefts, firsts}
 use Rattle.reading.proofs.Scoring.{score_none, score_possible, entries_at, room_at}

@@ -1,4 +1,4 @@
-use Rattle.std.proofs.Common.{◌+◌, take, drop, sym, refl, ap, arith}
+use Rattle.std.proofs.Common.{◌+◌, take, drop, sym, ap, arith}
 use Rattle.std.proofs.lemmas.List.{length-take-le}
 use Rattle.walk_lines.specs.Buffers.{held}
 use Rattle.walk_lines.proofs.Buffering.{kept_none, kept_next, line_at, free_more, all_taken}
