@@ -6,21 +6,21 @@
 #[cfg(test)]
 mod drafts;
 #[cfg(test)]
+mod files_read;
+#[cfg(test)]
+mod files_written;
+#[cfg(test)]
 mod histories;
 #[cfg(test)]
-mod lines;
+mod lines_put;
 #[cfg(test)]
 mod listings;
-#[cfg(test)]
-mod reading;
 #[cfg(test)]
 mod readings;
 #[cfg(test)]
 mod same;
 #[cfg(test)]
 mod scores;
-#[cfg(test)]
-mod writing;
 
 ghost use Rattle.examples.specs.Examples.{LeadingToItselfRefused, ProvedExamples};
 

@@ -244,7 +244,9 @@ fn half_read(rt: HostRuntime) -> Result<(), Fail> {
         return Err(Fail::new("no production"));
     };
     assert!(rt;
-        production.left() == 0 && production.right() == &[16, 1] && production.price() == 7
+        production.left() == 0
+            && production.right() == [16, 1].as_slice()
+            && production.price() == 7
     );
     let mut other = SpelledDraft::new();
     assert_eq!(rt; read_into(&mut other, half), Ok(1));
