@@ -1,5 +1,5 @@
 -- A grammar with the spellings of its kinds, and what its symbols are written as. Assumes nothing.
-use Rattle.std.specs.Prelude.{◌≡◌, ℕ, ◌+◌, ◌-◌, ◌<◌, ◌≤◌, cond, ◌⊎◌, List, [], ◌∷◌, ◌++◌, length, get_or, Result, nat_lt, slice_index, slice_index_or}
+use Rattle.std.specs.Prelude.{◌≡◌, ℕ, ◌+◌, ◌-◌, ◌<◌, ◌≤◌, cond, ◌⊎◌, List, [], ◌∷◌, ◌++◌, length, Result, nat_lt, slice_index, slice_index_or}
 use Rattle.grammar.specs.declared.refusals.FileRefusal.{FileRefusal}
 use Rattle.grammar.specs.declared.refusals.Refusal.TheVariants.{File}
 use Rattle.grammar.specs.Grammar.{Grammar, right_at}
@@ -15,7 +15,7 @@ pub record Spelled : Type 0 where
 -- w is the spelling of index k, and of no index before it
 pub record First (ws : List Spelling) (w : Spelling) (k : ℕ) : Type 0 where
   pub within : k < length ws
-  pub is : get_or ws k name ≡ w
+  pub is : slice_index_or ws k name ≡ w
   pub new : (j : ℕ) → j < k → ¬ (slice_index_or ws j name ≡ w)
 
 -- w is among the spellings

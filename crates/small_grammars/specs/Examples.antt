@@ -31,6 +31,6 @@ pub record LineExamples : Type 0 where
   pub detour_costs : Costs detour_grammar (16 ∷ 17 ∷ []) 3
   pub detour_lists : Lists detour_grammar (16 ∷ 17 ∷ []) (row 1 0 2 ∷ [])
 
--- all examples hold
+-- the examples of what may come next hold
 abbrev pub SmallGrammars : Type 0
 SmallGrammars = Examples

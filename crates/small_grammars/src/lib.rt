@@ -4,7 +4,7 @@
 
 ghost use Rattle.small_grammars.specs.Examples.{LineExamples, SmallGrammars};
 
-// The examples hold.
+// The examples of what may come next hold.
 pub fn small_grammars()
     ensures { SmallGrammars }
 {}

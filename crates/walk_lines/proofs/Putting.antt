@@ -1,7 +1,7 @@
 -- What putting a line keeps of a reading. Assumes nothing.
 use Rattle.std.proofs.Common.{◌≡◌, ℕ, List, length, Ok, Err, Result, sym, refl, ◌∙◌, subst, arith}
 use Rattle.syntax.specs.Syntax.{Spelling}
-use Rattle.grammar.specs.Refusals.{number as number_of_lem}
+use Rattle.grammar.specs.Refusals.{number as number_of}
 use Rattle.grammar.specs.declared.refusals.ReadingRefusal.{ReadingRefusal}
 use Rattle.draft.specs.declared.sealed.Grammar.{Grammar as Sealed}
 use Rattle.reading.specs.declared.reading.Reading.{Reading}
@@ -58,5 +58,5 @@ module _ (g : Sealed) (ss : List Spelling) (chart line : List ℕ) (r q : Readin
 
   -- a word of the line is refused
   pub judged_refused :
-      (fault : LineFault) (n : ℕ) → PutsLine ss line r (Err fault) q → n ≡ number_of_lem fault.refusal → LineJudged g ss chart line (Refused n fault.place)
+      (fault : LineFault) (n : ℕ) → PutsLine ss line r (Err fault) q → n ≡ number_of fault.refusal → LineJudged g ss chart line (Refused n fault.place)
   judged_refused fault n p e = subst (λ k. LineJudged g ss chart line (Refused k fault.place)) (sym e) (word_refused fault o p)

@@ -3,7 +3,7 @@ use Rattle.std.proofs.Common.{◌≡◌, ℕ, Bool, true, false, Ok, Err, Result
 use Rattle.std.proofs.lemmas.Bool.{true≢false}
 use Rattle.grammar.specs.declared.refusals.ReadingRefusal.{ReadingRefusal}
 use Rattle.grammar.specs.declared.refusals.Refusal.TheVariants.{Reading as Layer}
-use Rattle.grammar.specs.Refusals.{number as number_of_lem}
+use Rattle.grammar.specs.Refusals.{number as number_of}
 use Rattle.reading.specs.declared.reading.Reading.{Reading}
 use Rattle.reading.specs.Readings.{Long, Marks, Looked, ScoreCause, chart_too_short, table_too_short, ScoreRefused, cells}
 use Rattle.walk_lines.specs.declared.score_tables.Scores.{Scores}
@@ -27,9 +27,9 @@ module _ (r : Reading) where
 
   module _ (end : ℕ) where
     -- a short chart
-    pub judged_short : (e : ReadingRefusal) (n : ℕ) → Looked r (Err e) → n ≡ number_of_lem (Layer e) → WordsJudged r end (Refused n 0)
+    pub judged_short : (e : ReadingRefusal) (n : ℕ) → Looked r (Err e) → n ≡ number_of (Layer e) → WordsJudged r end (Refused n 0)
     judged_short e n h m =
-        let i : 14 ≡ n = sym (m ∙ ap (λ f. number_of_lem (Layer f)) h.1) in
+        let i : 14 ≡ n = sym (m ∙ ap (λ f. number_of (Layer f)) h.1) in
         subst (λ k. WordsJudged r end (Refused k 0)) i (chart_short h.0)
 
     -- no sentence
@@ -45,10 +45,10 @@ module _ (r : Reading) where
         (Long (cells r) → Marks r) →
         s ≡ true →
         BothScores r (Err e) →
-        n ≡ number_of_lem (Layer e) →
+        n ≡ number_of (Layer e) →
         WordsJudged r end (Refused n 0)
     judged_unscored s mask n e h marks t b m =
-        let c = short_cause (number_of_lem (Layer e)) b.0 h.0 in
+        let c = short_cause (number_of (Layer e)) b.0 h.0 in
         subst (λ k. WordsJudged r end (Refused k 0)) (c.0 ∙ sym m) (tables_short h.0 ((h.1 (marks h.0)).whole.0 t) c.1)
 
     -- a sentence with its scores

@@ -1,7 +1,7 @@
 -- What the program says of a book. Assumes nothing.
 use Rattle.std.specs.Prelude.{◌≡◌, ℕ, List, ◌++◌, length, Ok, Err, codes, decimal}
 use Rattle.grammar.specs.declared.refusals.Refusal.{Refusal}
-use Rattle.grammar.specs.Refusals.{number as number_of_lem}
+use Rattle.grammar.specs.Refusals.{number as number_of}
 use Rattle.file_model.specs.Spelled.{Spelled}
 use Rattle.file_model.specs.Files.{fault, Reads}
 use Rattle.walk_lines.specs.declared.outcome.Outcome.{Outcome}
@@ -11,7 +11,7 @@ use Rattle.walk_lines.specs.declared.outcome.Outcome.TheVariants.{Read, Refused}
 abbrev pub OutcomeOf : List ℕ → Spelled → Outcome → Type 0
 OutcomeOf text s (Read version productions rules) =
     Reads text (Ok version) s × (productions ≡ length s.draft.productions) × (rules ≡ length s.draft.rules)
-OutcomeOf text s (Refused number line) = (e : Refusal) × Reads text (Err (fault e line)) s × (number ≡ number_of_lem e)
+OutcomeOf text s (Refused number line) = (e : Refusal) × Reads text (Err (fault e line)) s × (number ≡ number_of e)
 
 -- the line that is printed
 abbrev pub report : Outcome → List ℕ

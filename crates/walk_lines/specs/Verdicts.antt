@@ -2,7 +2,7 @@
 use Rattle.std.specs.Prelude.{◌≡◌, ℕ, ◌+◌, ◌*◌, ◌<◌, List, ◌++◌, length, Ok, Err, codes, decimal, Result}
 use Rattle.grammar.specs.declared.refusals.ReadingRefusal.{ReadingRefusal}
 use Rattle.grammar.specs.Grammar.{places}
-use Rattle.grammar.specs.Refusals.{number as number_of_lem}
+use Rattle.grammar.specs.Refusals.{number as number_of}
 use Rattle.theory.specs.Claims.{Sentence}
 use Rattle.scales.specs.ThreeScales.{count, price}
 use Rattle.scales.specs.declared.values.Count.{Count}
@@ -57,7 +57,7 @@ pub data LineJudged (g : Sealed) (ss : List Spelling) (chart line : List ℕ) : 
       {r q : Reading} (fault : LineFault) →
       Opens g chart r →
       PutsLine ss line r (Err fault) q →
-      LineJudged g ss chart line (Refused (number_of_lem fault.refusal) fault.place)
+      LineJudged g ss chart line (Refused (number_of fault.refusal) fault.place)
   words_put :
       {r q : Reading} (n : ℕ) {v : Verdict} →
       Opens g chart r →

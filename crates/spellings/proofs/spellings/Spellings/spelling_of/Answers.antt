@@ -16,5 +16,5 @@ returns c =
       i,
       omega (arith, c.from-index.ensures),
       omega (arith, counted spelling s.words s.count (omega arith)),
-      looked spelling s.words s.count i c.index-self-index.result name (omega arith) (omega arith),
+      looked spelling s.words s.count i _ name (omega arith) (omega arith),
     )
