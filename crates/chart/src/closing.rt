@@ -31,11 +31,7 @@ fn complete_if_whole(t: &Tables, cells: &mut Cells, s: usize, j: usize, q: usize
     ensures moved { Moves t.now j cells.old cells.new result }
     ensures done { result ≡ false → ProductionDone t.now s j cells.new q }
 {
-    if has(cells, s, j, t.last[q] as usize) {
-        complete(t, cells, s, j, q)
-    } else {
-        false
-    }
+    has(cells, s, j, t.last[q] as usize) && complete(t, cells, s, j, q)
 }
 
 // Completes the productions that have a complete item from s to j.
@@ -75,13 +71,7 @@ fn predict(t: &Tables, cells: &mut Cells, j: usize, places: Places, q: usize) ->
     ensures moved { Moves t.now j cells.old cells.new result }
     ensures done { Begun t.now j places.low places.high cells.new q }
 {
-    if !contains(t.live, q) {
-        return false;
-    }
-    if !meets(places, &t.waits, 2 * q) {
-        return false;
-    }
-    add(cells, j, j, t.first[q] as usize)
+    contains(t.live, q) && meets(places, &t.waits, 2 * q) && add(cells, j, j, t.first[q] as usize)
 }
 
 // Predicts every live production that an item of column j waits for.
@@ -98,16 +88,22 @@ fn predict_column(t: &Tables, cells: &mut Cells, j: usize) -> bool
     changed
 }
 
+// Completes and predicts in column j once.
+fn step(t: &Tables, cells: &mut Cells, j: usize) -> bool
+    requires inside { j ≤ 48 }
+    ensures moved { Moves t.now j cells.old cells.new result }
+    ensures done { result ≡ false → Completed t.now j cells.new × Predicted t.now j cells.new }
+{
+    let completed = complete_column(t, cells, j);
+    let predicted = predict_column(t, cells, j);
+    completed | predicted
+}
+
 // Completes and predicts in column j until nothing changes.
 pub(crate) fn close_column(t: &Tables, cells: &mut Cells, j: usize)
     requires inside { j ≤ 48 }
     ensures moved { (r : Bool) × Moves t.now j cells.old cells.new r }
     ensures closed { Closes t.now j cells.old cells.new }
 {
-    let mut changed = true;
-    while changed {
-        let completed = complete_column(t, cells, j);
-        let predicted = predict_column(t, cells, j);
-        changed = completed | predicted;
-    }
+    while step(t, cells, j) {}
 }

@@ -5,6 +5,7 @@ ghost use Rattle.chart.specs.Chart.{cell_of, Marked};
 ghost use Rattle.chart.specs.Cells.{Grows, Added, Advanced, Cleared, Gathered, Meets};
 
 use crate::Cells;
+use bitset::cells::{is_marked, mark};
 
 // A set of places: the place d is bit d of `low`, or bit d - 64 of `high`.
 #[derive(Clone, Copy)]
@@ -19,7 +20,7 @@ pub fn has(cells: &Cells, i: usize, j: usize, d: usize) -> bool
     ensures yes { result ≡ true → Marked cells.now i j d }
     ensures no { result ≡ false → ¬ Marked cells.now i j d }
 {
-    (cells[2 * (49 * j + i) + d / 64] >> (d % 64)) & 1 == 1
+    is_marked(cells, 49 * j + i, d)
 }
 
 // Adds bits to the cell k and tells whether that changed it.
@@ -39,7 +40,7 @@ pub(crate) fn add(cells: &mut Cells, i: usize, j: usize, d: usize) -> bool
     requires inside { (i ≤ 48) × ((j ≤ 48) × (d < 128)) }
     ensures { Added (cell_of i j) d cells.old cells.new result }
 {
-    join(cells, 2 * (49 * j + i) + d / 64, 1 << (d % 64))
+    mark(cells, 49 * j + i, d)
 }
 
 // Moves the dot over one symbol: for each item with origin i and end s whose place is in the set at m of the mask, adds

@@ -35,11 +35,7 @@ fn add_start(t: &Tables, cells: &mut Cells, p: usize) -> bool
     ensures moved { Moves t.now 0 cells.old cells.new result }
     ensures makes { Has t.now.starts p → Marked cells.new 0 0 (first_of t.now p) }
 {
-    if contains(t.starts, p) {
-        add(cells, 0, 0, t.first[p] as usize)
-    } else {
-        false
-    }
+    contains(t.starts, p) && add(cells, 0, 0, t.first[p] as usize)
 }
 
 // Makes the cells the chart of no words.
@@ -100,10 +96,7 @@ fn spans(t: &Tables, cells: &Cells, n: usize, q: usize) -> bool
     ensures yes { result ≡ true → Ends t.now n cells.now q }
     ensures no { result ≡ false → ¬ Ends t.now n cells.now q }
 {
-    if !contains(t.starts, q) {
-        return false;
-    }
-    has(cells, 0, n, t.last[q] as usize)
+    contains(t.starts, q) && has(cells, 0, n, t.last[q] as usize)
 }
 
 // Whether the n words of the chart are a sentence.
@@ -112,12 +105,7 @@ pub fn accepts(t: &Tables, cells: &Cells, n: usize) -> bool
     ensures yes { result ≡ true → WhereCharted t.now n cells.now Accepted }
     ensures no { result ≡ false → WhereCharted t.now n cells.now (λ g ws. ¬ Accepted g ws) }
 {
-    for q in 0..t.count {
-        if spans(t, cells, n, q) {
-            return true;
-        }
-    }
-    false
+    (0..t.count).any(|q| spans(t, cells, n, q))
 }
 
 // The set of kinds with the kind in it, if a place waits for it.
