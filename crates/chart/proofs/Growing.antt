@@ -2,11 +2,12 @@
 use Rattle.std.proofs.Common.{◌≡◌, ℕ, ◌+◌, ◌-◌, ◌/◌, ◌%◌, ◌^◌, ◌<◌, ◌≤◌, Bool, true, false, cond, not, ◌||◌, eqb, ◌≢◌, ◌↔◌, List, length, get_or, set, sym, refl, ap, ◌∙◌, subst, inl, inr, ⊎_elim, arith, length-set, get_or-set_other, get_or-set_same}
 use lib.Seq.{set-get_or}
 use lib.Bits.{bit_or, bit_and, or_lt}
+use Rattle.std.proofs.lemmas.Nat.{pow_below}
 use Rattle.std.proofs.lemmas.List.Sums.{sum_by-set}
 use Rattle.std.proofs.lemmas.Bool.{cases_eq, cases_Bool, eqb-true, eqb-false, or_parts, not-false}
 use Rattle.bitset.specs.Bits.{Has}
 use Rattle.bitset.proofs.Digits.{none_of_zero, or_has, or_one_has, or_grows}
-use Rattle.tables.specs.Sets.{InSet}
+use Rattle.bitset.specs.Cells.{InSet}
 use Rattle.chart.specs.Cells.{pair, room, Grows, Added, Advanced, Cleared}
 use Rattle.chart.proofs.Pairs.{to_pair, from_pair, pair_or, pair_and, up_low, up_high, raised, raised_none, no_place}
 
@@ -78,6 +79,30 @@ joined a k w h f g =
     }
 
 -- ---- one place comes in
+
+pub marked_grows :
+    (a b : List ℕ) (at d : ℕ) (r : Bool) → at + 1 < length a → d < 128 → get_or a (at + d / 64) 0 < 2 ^ 64 →
+    b ≡ set a (at + d / 64) (bit_or (get_or a (at + d / 64) 0) (2 ^ (d % 64))) → (r ≡ true → ¬ InSet a at d) →
+    (r ≡ false → b ≡ a) → Grows a b r
+marked_grows a b at d r h l f e came stayed =
+    let k = at + d / 64 in
+    let x = get_or a k 0 in
+    let w = 2 ^ (d % 64) in
+    let i : k < length a = omega arith in
+    let fits : w < 2 ^ 64 = pow_below (d % 64) 64 (omega arith) in
+    let new : Has (bit_or x w) (d % 64) = (or_one_has x (d % 64) (d % 64)).1 (inr refl) in
+    record {
+      grows = subst (λ c. (m n : ℕ) → Has (get_or a m 0) n → Has (get_or c m 0) n) (sym e) (joined a k w i f fits).grows;
+      less =
+          elim (cases_Bool r) [
+            | inl t ↦ rw t (rw e (
+                let n : ¬ (bit_or x w ≡ x) = λ q. came t (subst (λ n. Has n (d % 64)) q new) in
+                let up : x < bit_or x w = omega (arith, n, or_grows x w) in
+                room_falls a k (bit_or x w) i up (or_lt 64 x w f fits)))
+            | inr n ↦ rw n (rw (stayed n) (omega arith))
+          ];
+      quiet = stayed;
+    }
 
 pub added :
     (a b : List ℕ) (at d : ℕ) (r : Bool) → at + 1 < length a → d < 128 →

@@ -4,7 +4,7 @@ use lib.Bits.{bit_or, bit_and, and_le_l, or_lt}
 use Rattle.std.proofs.lemmas.Bool.{cases_eq, cases_lt}
 use Rattle.bitset.specs.Bits.{bit, Has}
 use Rattle.bitset.proofs.Digits.{none_past, none_of_zero, or_has}
-use Rattle.tables.specs.Sets.{InSet}
+use Rattle.bitset.specs.Cells.{InSet}
 use Rattle.chart.specs.Cells.{pair, Meets}
 use Rattle.chart.proofs.Digits.{same_bit, and_has, none_at_zero, bit_up, bit_top, top_below, some_bit}
 

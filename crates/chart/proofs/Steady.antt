@@ -5,7 +5,7 @@ use Rattle.bitset.specs.Bits.{Has}
 use Rattle.grammar.specs.Grammar.{Grammar, Known, size_of}
 use Rattle.grammar.specs.Items.{Item, init, predict, scan, complete}
 use Rattle.tables.specs.declared.tables.Tables.{Tables}
-use Rattle.tables.specs.Sets.{InSet}
+use Rattle.bitset.specs.Cells.{InSet}
 use Rattle.tables.specs.Meaning.{first_of, last_of, Waits, Alive}
 use Rattle.chart.specs.Chart.{cell_of, Marked, Sound}
 use Rattle.chart.specs.Cells.{Added, Advanced, Seen, Meets}

@@ -1,7 +1,7 @@
 -- Sets of places in cells and in pairs of words: what comes in, and what is left out. Assumes nothing.
 use Rattle.std.specs.Prelude.{◌≡◌, ℕ, ◌+◌, ◌-◌, ◌/◌, ◌%◌, ◌^◌, ◌<◌, ◌≤◌, Bool, false, cond, ◌⊎◌, List, [], ◌∷◌, sum_by, slice_index}
 use Rattle.bitset.specs.Bits.{bit, Has}
-use Rattle.tables.specs.Sets.{InSet}
+use Rattle.bitset.specs.Cells.{InSet}
 use Rattle.chart.specs.Chart.{Marked}
 
 -- the bit of the place d in a set of two words

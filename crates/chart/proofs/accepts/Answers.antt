@@ -1,20 +1,15 @@
-use Rattle.std.proofs.Common.{arith, rules, below_more}
+use Rattle.std.proofs.Common.{ℕ, ◌<◌, arith, rules}
+use Rattle.std.proofs.iter.runs.Sources.{ranges}
+use Rattle.chart.specs.Columns.{Ends}
 use Rattle.chart.proofs.Words.{accepted, not_accepted}
 use Rattle.chart.proofs.accepts.Goals as goal
 
-pub loop-q-preserved : goal.loop-q-preserved
-loop-q-preserved c = below_more _ _ c.loop-q.invariant (c.spans.ensures.no c.if-spans.false)
+pub returns-clause-yes : goal.returns-clause-yes
+returns-clause-yes c t =
+    let found : (q : ℕ) × (q < c.args.t.now.count) × Ends c.args.t.now c.args.n c.args.cells.now q = search (rules, ranges) in
+    accepted c.args.t.now c.args.n c.args.cells.now found.0 (omega arith) found.1 found.2
 
-pub returns-then-spans : goal.returns-then-spans
-returns-then-spans c = record {
-  yes = λ _.
-      accepted c.args.t.now c.args.n c.args.cells.now c.loop-q.q (omega arith) (omega arith)
-      (c.spans.ensures.yes c.if-spans.true);
-  no = λ t. search rules;
-}
-
-pub returns : goal.returns
-returns c = record {
-  yes = λ t. search rules;
-  no = λ _. not_accepted c.args.t.now c.args.n c.args.cells.now (λ q l. c.loop-q.invariant q (omega arith));
-}
+pub returns-clause-no : goal.returns-clause-no
+returns-clause-no c f =
+    let none : (q : ℕ) → q < c.args.t.now.count → ¬ Ends c.args.t.now c.args.n c.args.cells.now q = search (rules, ranges) in
+    not_accepted c.args.t.now c.args.n c.args.cells.now none

@@ -1,12 +1,10 @@
-use Rattle.std.proofs.Common.{◌≡◌, ◌+◌, Bool, false, cond}
+use Rattle.std.proofs.Common.{Bool}
 use Rattle.chart.specs.Cells.{room}
-use Rattle.chart.specs.Columns.{Moves, Completed, Predicted}
+use Rattle.chart.specs.Columns.{Moves}
 use Rattle.chart.proofs.closing.close_column.Given as goal
 
-abbrev pub invariant-loop-changed : goal.invariant-loop-changed
-invariant-loop-changed l =
-    ((r : Bool) × Moves l.t l.j l.initial.cells l.cells r)
-    × (l.changed ≡ false → Completed l.t l.j l.cells × Predicted l.t l.j l.cells)
+abbrev pub invariant-loop : goal.invariant-loop
+invariant-loop l = (r : Bool) × Moves l.t l.j l.initial.cells l.cells r
 
-abbrev pub decreases-loop-changed : goal.decreases-loop-changed
-decreases-loop-changed l = room l.cells + cond l.changed 1 0
+abbrev pub decreases-loop : goal.decreases-loop
+decreases-loop l = room l.cells

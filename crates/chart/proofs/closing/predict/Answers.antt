@@ -1,14 +1,14 @@
-use Rattle.std.proofs.Common.{arith}
+use Rattle.std.proofs.Common.{arith, rules}
 use Rattle.chart.proofs.Steady.{predicted}
 use Rattle.chart.proofs.closing.predict.Goals as goal
+use Rattle.chart.proofs.closing.predict.Goals.{then-contains, else-contains}
 
-pub returns : goal.returns
-returns c =
+pub returns-then-meets-clause-moved : goal.returns-then-meets-clause-moved
+returns-then-meets-clause-moved c =
     let places = c.args.places in
-    let v = c.add.ensures in
-    record {
-      moved = predicted c.args.t.now c.args.j c.args.q places.low places.high c.args.cells.now
-          _ _ v (omega arith) (omega arith)
-          (c.contains.ensures.yes c.if-not-contains.false) c.requires.seen (c.meets.ensures.yes c.if-not-meets.false);
-      done = λ _ _. v.makes;
-    }
+    elim c.if-contains.branch [
+      | then-contains w ↦
+          predicted c.args.t.now c.args.j c.args.q places.low places.high c.args.cells.now _ _ c.add.ensures (omega arith) (omega arith)
+          (c.contains.ensures.yes w.if-contains.true) c.requires.seen (w.meets.ensures.yes (search rules))
+      | else-contains w ↦ search rules
+    ]
