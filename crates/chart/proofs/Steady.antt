@@ -8,6 +8,7 @@ use Rattle.tables.specs.declared.tables.Tables.{Tables}
 use Rattle.bitset.specs.Cells.{InSet}
 use Rattle.tables.specs.Meaning.{first_of, last_of, Waits, Alive}
 use Rattle.chart.specs.Chart.{cell_of, Marked, Sound}
+use Rattle.chart.specs.declared.items.Places.{Places}
 use Rattle.chart.specs.Cells.{Added, Advanced, Seen, Meets}
 use Rattle.chart.specs.Columns.{Outside, Moves, Scanned, Started}
 use Rattle.chart.proofs.Growing.{still, then_grows, kept, same_set}
@@ -116,9 +117,9 @@ completed t i s j q a b r v li ls lj lq whole = record {
 }
 
 -- prediction of q at j
-pub predicted : (t : Tables) (j q lo hi : ℕ) (a b : List ℕ) (r : Bool) → Added (cell_of j j) (first_of t q) a b r →
-    j ≤ 48 → q < t.count → Alive t q → Seen a j (j + 1) lo hi → Meets lo hi t.waits (2 * q) → Moves t j a b r
-predicted t j q lo hi a b r v lj lq alive seen meets = record {
+pub predicted : (t : Tables) (j q : ℕ) (ps : Places) (a b : List ℕ) (r : Bool) → Added (cell_of j j) (first_of t q) a b r →
+    j ≤ 48 → q < t.count → Alive t q → Seen a j (j + 1) ps → Meets ps t.waits (2 * q) → Moves t j a b r
+predicted t j q ps a b r v lj lq alive seen meets = record {
   growth = v.growth;
   other = outside_added t j j q a b r v lj (t.low q lq);
   sound = λ g ws m sound.

@@ -21,7 +21,7 @@ pub mod items;
 
 use bitset::{contains, with};
 use closing::close_column;
-use items::{Places, add, advance, clear, gather, has, meets};
+use items::{Places, add, advance, clear, gather, has};
 use tables::tables::Tables;
 
 // How many cells a chart has: two for each origin and each end.
@@ -56,7 +56,7 @@ fn scan(t: &Tables, cells: &mut Cells, j: usize, kind: usize)
     ensures { Scanned t.now j kind (j + 1) cells.old cells.new }
 {
     for i in 0..j + 1 {
-        advance(cells, i, j, j + 1, &t.before, 2 * kind);
+        advance(cells, i, j, j + 1, &t.before, kind);
     }
 }
 
@@ -70,7 +70,7 @@ pub fn put(t: &Tables, cells: &mut Cells, n: usize, kind: usize) -> bool
         (cells.new ≡ cells.old)
         × WhereCharted t.now n cells.old (λ g ws. ¬ Awaited g ws (16 + kind)) }
 {
-    if !meets(gather(cells, n), &t.before, 2 * kind) {
+    if !gather(cells, n).meets(&t.before, kind) {
         return false;
     }
     scan(t, cells, n, kind);
@@ -112,9 +112,9 @@ pub fn accepts(t: &Tables, cells: &Cells, n: usize) -> bool
 fn with_kind(t: &Tables, places: Places, kinds: u32, kind: usize) -> u32
     requires { kind < 32 }
     ensures { (b : ℕ) →
-        Has result b ↔ (Has kinds b ⊎ ((b ≡ kind) × Meets places.low places.high t.now.before (2 * kind))) }
+        Has result b ↔ (Has kinds b ⊎ ((b ≡ kind) × Meets places t.now.before (2 * kind))) }
 {
-    if meets(places, &t.before, 2 * kind) {
+    if places.meets(&t.before, kind) {
         with(kinds, kind)
     } else {
         kinds

@@ -25,13 +25,13 @@ loop-kind-init c b = (λ h. absurd (none_of_zero b h), λ h. let l = h.0 in absu
 pub loop-kind-preserved : goal.loop-kind-preserved
 loop-kind-preserved c =
     let places = c.gather-places.result in
-    one_more (λ b. Meets places.low places.high c.args.t.now.before (2 * b))
+    one_more (λ b. Meets places c.args.t.now.before (2 * b))
     c.loop-kind.kinds c.with_kind-kinds.result c.loop-kind.kind
     c.loop-kind.invariant c.with_kind-kinds.ensures
 
 pub returns : goal.returns
 returns c g ws m len chart b l =
     let places = c.gather-places.result in
-    let told = awaited c.args.t.now c.args.n b places.low places.high c.args.cells.now
+    let told = awaited c.args.t.now c.args.n b places c.args.cells.now
     (omega arith) l c.gather-places.ensures g ws m len chart in
     (λ h. told.0 ((c.loop-kind.invariant b).0 h).1, λ h. (c.loop-kind.invariant b).1 (omega arith, told.1 h))
