@@ -19,7 +19,7 @@ fn complete(t: &Tables, cells: &mut Cells, s: usize, j: usize, q: usize) -> bool
     ensures done { result ≡ false → AllMoved t.now s j q cells.new }
 {
     let mut changed = false;
-    for i in 0..s + 1 {
+    for i in 0..=s {
         changed |= advance(cells, i, s, j, &t.waits, q);
     }
     changed
@@ -57,7 +57,7 @@ fn complete_column(t: &Tables, cells: &mut Cells, j: usize) -> bool
     ensures done { result ≡ false → Completed t.now j cells.new }
 {
     let mut changed = false;
-    for s in (0..j + 1).rev() {
+    for s in (0..=j).rev() {
         changed |= complete_origin(t, cells, s, j);
     }
     changed

@@ -146,7 +146,7 @@ pub(crate) fn gather(cells: &Cells, j: usize) -> Places
     ensures { Gathered cells.now j (j + 1) result }
 {
     let mut all = Places { low: 0, high: 0 };
-    for i in 0..j + 1 {
+    for i in 0..=j {
         all = all.or(Places::at(cells, i, j));
     }
     all

@@ -16,3 +16,11 @@ pub returns : goal.returns
 returns c =
     let e : c.loop-i.i ≡ c.args.j + 1 = omega arith in
     subst (λ n. Scanned c.args.t.now c.args.j c.args.kind n c.args.cells.now c.loop-i.cells) e c.loop-i.invariant
+
+pub returns-2 : goal.returns-2
+returns-2 c =
+    let e : c.loop-i.i ≡ c.args.j = omega arith in
+    subst (λ n. Scanned c.args.t.now c.args.j c.args.kind (n + 1) c.args.cells.now c.advance.new.cells) e
+    (scanned_more c.args.t.now c.args.j c.args.kind c.loop-i.i c.args.cells.now c.loop-i.cells
+    _ _ (omega arith) (omega arith)
+    (omega arith) c.loop-i.invariant c.advance.ensures)
