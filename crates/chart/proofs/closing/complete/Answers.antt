@@ -5,7 +5,7 @@ use Rattle.chart.specs.Chart.{cell_of, Marked}
 use Rattle.chart.specs.Cells.{Advanced}
 use Rattle.chart.specs.Columns.{MovedOn}
 use Rattle.chart.proofs.Growing.{kept}
-use Rattle.chart.proofs.Steady.{Pass, pass_none, pass_step, completed}
+use Rattle.chart.proofs.Steady.{Pass, pass_step, completed}
 use Rattle.chart.proofs.closing.complete.Goals as goal
 
 -- the items with origin i move on too
@@ -19,11 +19,6 @@ one_more t i s j q a b d was r li ls lj lq whole old v =
     pass_step (MovedOn t s j q) (λ k. k < i) (λ k. k < i + 1) i (λ k n l. omega (arith, n)) old
     (completed t i s j q b d r v li ls lj lq still_whole)
     (λ same p l h w. v.makes p l (subst (λ x. Marked x i s p) (v.growth.quiet same) h) w)
-
-pub loop-i-init : goal.loop-i-init
-loop-i-init c =
-    pass_none (MovedOn c.args.t.now c.args.s c.args.j c.args.q) (λ k. k < 0) c.args.t.now c.args.j c.args.cells.now
-    (λ k l. omega arith)
 
 pub loop-i-preserved : goal.loop-i-preserved
 loop-i-preserved c =
