@@ -1,15 +1,16 @@
 -- Bits that come into cells.
 use Rattle.std.proofs.Common.{◌≡◌, ℕ, ◌+◌, ◌-◌, ◌/◌, ◌%◌, ◌^◌, ◌<◌, ◌≤◌, Bool, true, false, cond, not, ◌||◌, eqb, ◌≢◌, ◌↔◌, List, length, get_or, set, sym, refl, ap, ◌∙◌, subst, inl, inr, ⊎_elim, arith, length-set, get_or-set_other, get_or-set_same}
 use lib.Seq.{set-get_or}
-use lib.Bits.{bit_or, bit_and, or_lt}
+use lib.Bits.{bit_or, or_lt}
 use Rattle.std.proofs.lemmas.Nat.{pow_below}
 use Rattle.std.proofs.lemmas.List.Sums.{sum_by-set}
 use Rattle.std.proofs.lemmas.Bool.{cases_eq, cases_Bool, eqb-true, eqb-false, or_parts, not-false}
 use Rattle.bitset.specs.Bits.{Has}
 use Rattle.bitset.proofs.Digits.{none_of_zero, or_has, or_one_has, or_grows}
 use Rattle.bitset.specs.Cells.{InSet}
-use Rattle.chart.specs.Cells.{pair, room, Grows, Added, Advanced, Cleared}
-use Rattle.chart.proofs.Pairs.{to_pair, from_pair, pair_or, pair_and, up_low, up_high, raised, raised_none, no_place}
+use Rattle.chart.specs.declared.items.Places.{Places}
+use Rattle.chart.specs.Cells.{pair, Among, room, Grows, Added, Joined, Advanced}
+use Rattle.chart.proofs.Pairs.{to_pair, from_pair, pair_or}
 
 -- ---- nothing is lost
 
@@ -130,111 +131,67 @@ added a b at d r h l e g =
           (cases_eq (at + f / 64) k);
     }
 
--- ---- a set goes one place up
+-- ---- places come into a set
 
-abbrev low_of : List ℕ → ℕ → List ℕ → ℕ → ℕ
-low_of a from mask m = bit_and (get_or a from 0) (get_or mask m 0)
-
-abbrev high_of : List ℕ → ℕ → List ℕ → ℕ → ℕ
-high_of a from mask m = bit_and (get_or a (from + 1) 0) (get_or mask (m + 1) 0)
-
--- what `advance` writes
-record Written (to from : ℕ) (mask : List ℕ) (m : ℕ) (a b : List ℕ) : Type 0 where
-  fits : low_of a from mask m < 2 ^ 64
-  low : get_or b to 0 ≡ bit_or (get_or a to 0) (up_low (low_of a from mask m))
-  high : get_or b (to + 1) 0 ≡ bit_or (get_or a (to + 1) 0) (up_high (low_of a from mask m) (high_of a from mask m))
+-- what two cells hold, once the words are joined to them
+record Written (to lo hi : ℕ) (a b : List ℕ) : Type 0 where
+  low : get_or b to 0 ≡ bit_or (get_or a to 0) lo
+  high : get_or b (to + 1) 0 ≡ bit_or (get_or a (to + 1) 0) hi
   rest : (k : ℕ) → (¬ (k ≡ to)) → (¬ (k ≡ to + 1)) → get_or b k 0 ≡ get_or a k 0
 
-written : (to from : ℕ) (mask : List ℕ) (m : ℕ) (a b e : List ℕ) → to + 1 < length a → low_of a from mask m < 2 ^ 64 →
-    b ≡ set a to (bit_or (get_or a to 0) (up_low (low_of a from mask m))) →
-    e ≡ set b (to + 1) (bit_or (get_or b (to + 1) 0) (up_high (low_of a from mask m) (high_of a from mask m))) →
-    Written to from mask m a e
-written to from mask m a b e h f p q =
-    let u = up_low (low_of a from mask m) in
-    let v = up_high (low_of a from mask m) (high_of a from mask m) in
-    let w = bit_or (get_or b (to + 1) 0) v in
-    let x = bit_or (get_or a to 0) u in
+written : (to lo hi : ℕ) (a b e : List ℕ) → to + 1 < length a →
+    b ≡ set a to (bit_or (get_or a to 0) lo) → e ≡ set b (to + 1) (bit_or (get_or b (to + 1) 0) hi) → Written to lo hi a e
+written to lo hi a b e h p q =
+    let w = bit_or (get_or b (to + 1) 0) hi in
+    let x = bit_or (get_or a to 0) lo in
     let long : to + 1 < length b = omega (arith, ap length p, length-set a to x) in
     let one : (k : ℕ) → (¬ (k ≡ to)) → get_or b k 0 ≡ get_or a k 0 = λ k n. ap (λ c. get_or c k 0) p ∙ off_set a to x k n in
     let two : (k : ℕ) → (¬ (k ≡ to + 1)) → get_or e k 0 ≡ get_or b k 0 = λ k n. ap (λ c. get_or c k 0) q ∙ off_set b (to + 1) w k n in
     record {
-      fits = f;
       low = two to (λ n. omega arith) ∙ ap (λ c. get_or c to 0) p ∙ at_set a to x (omega arith);
-      high = ap (λ c. get_or c (to + 1) 0) q ∙ at_set b (to + 1) w long ∙ ap (λ n. bit_or n v) (one (to + 1) (λ n. omega arith));
+      high = ap (λ c. get_or c (to + 1) 0) q ∙ at_set b (to + 1) w long ∙ ap (λ n. bit_or n hi) (one (to + 1) (λ n. omega arith));
       rest = λ k n o. two k o ∙ one k n;
     }
 
-raises :
-    (to from : ℕ) (mask : List ℕ) (m : ℕ) (a b : List ℕ) (r : Bool) → Written to from mask m a b → Grows a b r →
-    Advanced to from mask m a b r
-raises to from mask m a b r w g =
-    let lo = low_of a from mask m in
-    let hi = high_of a from mask m in
+pub joins : (to : ℕ) (p : Places) (a b e : List ℕ) (r : Bool) → to + 1 < length a →
+    b ≡ set a to (bit_or (get_or a to 0) p.low) → e ≡ set b (to + 1) (bit_or (get_or b (to + 1) 0) p.high) → Grows a e r →
+    Joined to p a e r
+joins to p a b e r h f g grows =
+    let w = written to p.low p.high a b e h f g in
     let x = get_or a to 0 in
     let y = get_or a (to + 1) 0 in
-    let here : (d : ℕ) → pair (get_or b to 0) (get_or b (to + 1) 0) d ≡ pair (bit_or x (up_low lo)) (bit_or y (up_high lo hi)) d
-    = λ d. ap (λ n. pair n (get_or b (to + 1) 0) d) w.low ∙ ap (λ n. pair (bit_or x (up_low lo)) n d) w.high in
-    let masked :
-    (d : ℕ) →
-    d < 128 →
-    (pair lo hi d ≡ 1) ↔ ((pair (get_or a from 0) (get_or a (from + 1) 0) d ≡ 1) × (pair (get_or mask m 0) (get_or mask (m + 1) 0) d ≡ 1))
-    = λ d l. pair_and (get_or a from 0) (get_or a (from + 1) 0) (get_or mask m 0) (get_or mask (m + 1) 0) d l in
+    let here : (d : ℕ) → pair (get_or e to 0) (get_or e (to + 1) 0) d ≡ pair (bit_or x p.low) (bit_or y p.high) d
+    = λ d. ap (λ n. pair n (get_or e (to + 1) 0) d) w.low ∙ ap (λ n. pair (bit_or x p.low) n d) w.high in
     record {
-      growth = g;
+      growth = grows;
       other = w.rest;
-      makes = λ d l s t.
-          let ld : d < 128 = omega arith in
-          let new = raised lo hi d w.fits l ∙ (masked d ld).1 (to_pair a from d ld s, to_pair mask m d ld t) in
-          from_pair b to (d + 1) l (here (d + 1) ∙ (pair_or x y (up_low lo) (up_high lo hi) (d + 1) l).1 (inr new));
-      only = λ d l s.
-          ⊎_elim
-          (λ old. inl (from_pair a to d l old))
-          (λ (new : pair (up_low lo) (up_high lo hi) d ≡ 1). inr (
-          let pos : ¬ (d ≡ 0) = λ z. raised_none lo hi (ap (pair (up_low lo) (up_high lo hi)) (sym z) ∙ new) in
-          let e = d - 1 in
-          let q : d ≡ e + 1 = omega (arith, pos) in
-          let le : e < 128 = omega arith in
-          let both = (masked e le).0 (sym (raised lo hi e w.fits (omega arith)) ∙ ap (pair (up_low lo) (up_high lo hi)) (sym q) ∙ new) in
-          (e, q, from_pair a from e le both.0, from_pair mask m e le both.1)))
-          ((pair_or x y (up_low lo) (up_high lo hi) d l).0 (sym (here d) ∙ to_pair b to d l s));
+      holds = λ d l. (
+        λ s.
+            ⊎_elim (λ old. inl (from_pair a to d l old)) (λ (new : Among p d). inr new)
+            ((pair_or x y p.low p.high d l).0 (sym (here d) ∙ to_pair e to d l s)),
+        λ o.
+            from_pair e to d l
+            (here d ∙ (pair_or x y p.low p.high d l).1 (⊎_elim (λ old. inl (to_pair a to d l old)) (λ (new : Among p d). inr new) o)),
+      );
     }
 
+-- ---- a set goes one place up
+
 pub advanced :
-    (to from : ℕ) (mask : List ℕ) (m : ℕ) (a b e : List ℕ) (r : Bool) → to + 1 < length a →
-    low_of a from mask m < 2 ^ 64 →
-    b ≡ set a to (bit_or (get_or a to 0) (up_low (low_of a from mask m))) →
-    e ≡ set b (to + 1) (bit_or (get_or b (to + 1) 0) (up_high (low_of a from mask m) (high_of a from mask m))) →
-    Grows a e r →
-    Advanced to from mask m a e r
-advanced to from mask m a b e r h f p q g = raises to from mask m a e r (written to from mask m a b e h f p q) g
-
--- there is nothing to move
-pub advanced_none :
-    (to from : ℕ) (mask : List ℕ) (m : ℕ) (a : List ℕ) → bit_or (low_of a from mask m) (high_of a from mask m) ≡ 0 →
-    Advanced to from mask m a a false
-advanced_none to from mask m a z = record {
-  growth = still a;
-  other = λ k n o. refl;
-  makes = λ d l h w.
-      let ld : d < 128 = omega arith in
-      absurd (no_place (low_of a from mask m) (high_of a from mask m) z d ld
-      ((pair_and (get_or a from 0) (get_or a (from + 1) 0) (get_or mask m 0) (get_or mask (m + 1) 0) d ld).1 (to_pair a from d ld h, to_pair mask m d ld w)));
-  only = λ d l h. inl h;
-}
-
--- ---- cells are cleared
-
-pub cleared_none : (start : ℕ) (a : List ℕ) → Cleared start start a a
-cleared_none start a = record { other = λ k o. refl; blank = λ k p q. absurd (omega arith) }
-
-pub cleared_more :
-    (start k : ℕ) (a b : List ℕ) → start ≤ k → k < length b → Cleared start k a b →
-    Cleared start (k + 1) a (set b k 0)
-cleared_more start k a b h l c = record {
-  other = λ m o.
-      ⊎_elim (λ (x : m < start). off_set b k 0 m (λ e. omega arith) ∙ c.other m (inl x))
-      (λ (x : k + 1 ≤ m). off_set b k 0 m (λ e. omega arith) ∙ c.other m (inr (omega arith))) o;
-  blank = λ m p q.
-      ⊎_elim (λ (e : m ≡ k). ap (λ i. get_or (set b k 0) i 0) e ∙ at_set b k 0 l)
-      (λ (n : ¬ (m ≡ k)). off_set b k 0 m n ∙ c.blank m p (omega (arith, n))) (cases_eq m k);
+    (to from : ℕ) (mask : List ℕ) (m : ℕ) (p n : Places) (a b : List ℕ) (r : Bool) →
+    ((d : ℕ) → d < 128 → Among p d ↔ (InSet a from d × InSet mask m d)) → (¬ Among n 0) →
+    ((d : ℕ) → d + 1 < 128 → Among n (d + 1) ↔ Among p d) → Joined to n a b r → Advanced to from mask m a b r
+advanced to from mask m p n a b r both none up j = record {
+  growth = j.growth;
+  other = j.other;
+  makes = λ d l s t. (j.holds (d + 1) l).1 (inr ((up d l).1 ((both d (omega arith)).1 (s, t))));
+  only = λ d l s.
+      ⊎_elim (λ (old : InSet a to d). inl old)
+      (λ (new : Among n d). inr (
+      let pos : ¬ (d ≡ 0) = λ z. none (subst (Among n) z new) in
+      let e = d - 1 in
+      let q : d ≡ e + 1 = omega (arith, pos) in
+      let was = (both e (omega arith)).0 ((up e (omega arith)).0 (subst (Among n) q new)) in
+      (e, q, was.0, was.1)))
+      ((j.holds d l).0 s);
 }

@@ -1,11 +1,11 @@
 -- Sets of places as two words.
 use Rattle.std.proofs.Common.{◌≡◌, ℕ, ◌+◌, ◌-◌, ◌*◌, ◌/◌, ◌%◌, ◌^◌, ◌<◌, ◌≤◌, ◌⊎◌, ◌↔◌, List, [], ◌∷◌, get_or, sym, refl, ap, ◌∙◌, subst, inl, inr, ⊎_elim, arith}
-use lib.Bits.{bit_or, bit_and, and_le_l, or_lt}
+use lib.Bits.{bit_or, bit_and, or_lt}
 use Rattle.std.proofs.lemmas.Bool.{cases_eq, cases_lt}
 use Rattle.bitset.specs.Bits.{bit, Has}
 use Rattle.bitset.proofs.Digits.{none_past, none_of_zero, or_has}
 use Rattle.bitset.specs.Cells.{InSet}
-use Rattle.chart.specs.Cells.{pair, Meets}
+use Rattle.chart.specs.Cells.{pair}
 use Rattle.chart.proofs.Digits.{same_bit, and_has, none_at_zero, bit_up, bit_top, top_below, some_bit}
 
 -- cases on a place: in the low word, or in the high one
@@ -114,9 +114,9 @@ raised lo hi d f h =
     ∙ sym (pair_high lo hi d l))
     d (omega arith) h
 
--- places that two sets have in common
+-- a set with a place, and one with none
 
-some_place : (x y : ℕ) → x < 2 ^ 64 → y < 2 ^ 64 → (¬ (bit_or x y ≡ 0)) → (d : ℕ) × (d < 128) × (pair x y d ≡ 1)
+pub some_place : (x y : ℕ) → x < 2 ^ 64 → y < 2 ^ 64 → (¬ (bit_or x y ≡ 0)) → (d : ℕ) × (d < 128) × (pair x y d ≡ 1)
 some_place x y fx fy h =
     let s = some_bit 64 (bit_or x y) (or_lt 64 x y fx fy) (omega (arith, h)) in
     let d = s.0 in
@@ -129,28 +129,3 @@ no_place x y z =
     by_word (λ d. pair x y d ≡ 1 → ⊥)
     (λ d l p. none_of_zero d (subst (λ n. Has n d) z ((or_has x y d).1 (inl (sym (pair_low x y d l) ∙ p)))))
     (λ d l p. none_of_zero d (subst (λ n. Has n d) z ((or_has x y d).1 (inr (sym (pair_high x y d l) ∙ p)))))
-
-pub meeting :
-    (lo hi : ℕ) (mask : List ℕ) (m : ℕ) → lo < 2 ^ 64 → hi < 2 ^ 64 →
-    (¬ (bit_or (bit_and lo (get_or mask m 0)) (bit_and hi (get_or mask (m + 1) 0)) ≡ 0)) → Meets lo hi mask m
-meeting lo hi mask m fl fh h =
-    let u = get_or mask m 0 in
-    let v = get_or mask (m + 1) 0 in
-    let s = some_place (bit_and lo u) (bit_and hi v) (omega (arith, and_le_l lo u)) (omega (arith, and_le_l hi v)) h in
-    let both = (pair_and lo hi u v s.0 s.1).0 s.2 in
-    (s.0, s.1, both.0, from_pair mask m s.0 s.1 both.1)
-
-pub not_meeting :
-    (lo hi : ℕ) (mask : List ℕ) (m : ℕ) → bit_or (bit_and lo (get_or mask m 0)) (bit_and hi (get_or mask (m + 1) 0)) ≡ 0 →
-    ¬ Meets lo hi mask m
-not_meeting lo hi mask m z h =
-    let u = get_or mask m 0 in
-    let v = get_or mask (m + 1) 0 in
-    let d = h.0 in
-    no_place (bit_and lo u) (bit_and hi v) z d h.1 ((pair_and lo hi u v d h.1).1 (h.2, to_pair mask m d h.1 h.3))
-
--- an empty set has no place
-pub empty_set :
-    (cells : List ℕ) (at : ℕ) → bit_or (get_or cells at 0) (get_or cells (at + 1) 0) ≡ 0 → (d : ℕ) → d < 128 →
-    ¬ InSet cells at d
-empty_set cells at z d l h = no_place (get_or cells at 0) (get_or cells (at + 1) 0) z d l (to_pair cells at d l h)

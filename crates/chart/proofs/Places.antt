@@ -1,12 +1,12 @@
 -- The places of a grammar's tables, and the items of a chart by production and dot.
-use Rattle.std.proofs.Common.{◌≡◌, ℕ, zero, suc, ◌+◌, ◌-◌, ◌<◌, ◌≤◌, List, length, refl, ap, ⊎_elim, arith}
+use Rattle.std.proofs.Common.{◌≡◌, ℕ, zero, suc, ◌+◌, ◌<◌, ◌≤◌, List, refl, ap, ⊎_elim, arith}
 use Rattle.std.proofs.lemmas.Bool.{cases_order}
 use Rattle.grammar.specs.Grammar.{Grammar, Known, size_of}
 use Rattle.grammar.specs.Items.{Item}
 use Rattle.tables.specs.declared.tables.Tables.{Tables}
-use Rattle.tables.specs.Meaning.{first_of, last_of, Placed, Means}
-use Rattle.chart.specs.Chart.{Marked, Sound, Charted}
-use Rattle.chart.proofs.Bounds.{item_known, item_dot, item_order, item_end, item_at}
+use Rattle.tables.specs.Meaning.{first_of, last_of, Means}
+use Rattle.chart.specs.Chart.{Marked, Sound}
+use Rattle.chart.proofs.Bounds.{item_known, item_dot, item_at}
 
 -- the places of a production come before those of a later one
 apart : (t : Tables) (g : Grammar) → Means t g → (p q : ℕ) → p < q → Known g q → last_of t p < first_of t q
@@ -48,35 +48,3 @@ item_of t g ws cells m sound p k i j kp lk li lj mark =
     let item = x.item in
     let same = same_place t g m p k x.production x.dot kp (item_known item) lk (item_dot item) x.place in
     item_at same.0 same.1 refl refl item
-
--- nothing is marked past the words, nor at an origin past the end, nor past the last place
-pub marked_end :
-    (t : Tables) (g : Grammar) (ws cells : List ℕ) → Charted t g ws cells → (i j d : ℕ) → i ≤ 48 → j ≤ 48 → d < 128 →
-    Marked cells i j d → j ≤ length ws
-marked_end t g ws cells c i j d li lj ld mark = item_end (c.only i j d li lj ld mark).item
-
-pub marked_order :
-    (t : Tables) (g : Grammar) (ws cells : List ℕ) → Charted t g ws cells → (i j d : ℕ) → i ≤ 48 → j ≤ 48 → d < 128 →
-    Marked cells i j d → i ≤ j
-marked_order t g ws cells c i j d li lj ld mark = item_order (c.only i j d li lj ld mark).item
-
-last_rises : (t : Tables) (g : Grammar) → Means t g → (p q : ℕ) → p ≤ q → Known g q → last_of t p ≤ last_of t q
-last_rises t g m p q h l =
-    let f = m.final q l in
-    ⊎_elim
-    (λ (e : p ≡ q). let s : last_of t p ≡ last_of t q = ap (last_of t) e in omega arith)
-    (⊎_elim (λ (s : p < q). let a = apart t g m p q s l in omega arith) (λ (s : q < p). absurd (omega arith)))
-    (cases_order p q)
-
-pub marked_placed :
-    (t : Tables) (g : Grammar) (ws cells : List ℕ) → Means t g → Charted t g ws cells → (i j d : ℕ) → i ≤ 48 →
-    j ≤ 48 → d < 128 → Marked cells i j d → Placed t d
-marked_placed t g ws cells m c i j d li lj ld mark =
-    let x = c.only i j d li lj ld mark in
-    let p = x.production in
-    let kp = item_known x.item in
-    let lk = item_dot x.item in
-    let e = x.place in
-    let f = m.final p kp in
-    let n = m.known in
-    (omega arith, let r = last_rises t g m p (t.count - 1) (omega arith) (omega arith) in omega arith)

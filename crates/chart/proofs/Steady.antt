@@ -8,6 +8,7 @@ use Rattle.tables.specs.declared.tables.Tables.{Tables}
 use Rattle.bitset.specs.Cells.{InSet}
 use Rattle.tables.specs.Meaning.{first_of, last_of, Waits, Alive}
 use Rattle.chart.specs.Chart.{cell_of, Marked, Sound}
+use Rattle.chart.specs.declared.items.Places.{Places}
 use Rattle.chart.specs.Cells.{Added, Advanced, Seen, Meets}
 use Rattle.chart.specs.Columns.{Outside, Moves, Scanned, Started}
 use Rattle.chart.proofs.Growing.{still, then_grows, kept, same_set}
@@ -116,9 +117,9 @@ completed t i s j q a b r v li ls lj lq whole = record {
 }
 
 -- prediction of q at j
-pub predicted : (t : Tables) (j q lo hi : ℕ) (a b : List ℕ) (r : Bool) → Added (cell_of j j) (first_of t q) a b r →
-    j ≤ 48 → q < t.count → Alive t q → Seen a j (j + 1) lo hi → Meets lo hi t.waits (2 * q) → Moves t j a b r
-predicted t j q lo hi a b r v lj lq alive seen meets = record {
+pub predicted : (t : Tables) (j q : ℕ) (ps : Places) (a b : List ℕ) (r : Bool) → Added (cell_of j j) (first_of t q) a b r →
+    j ≤ 48 → q < t.count → Alive t q → Seen a j (j + 1) ps → Meets ps t.waits (2 * q) → Moves t j a b r
+predicted t j q ps a b r v lj lq alive seen meets = record {
   growth = v.growth;
   other = outside_added t j j q a b r v lj (t.low q lq);
   sound = λ g ws m sound.
@@ -150,11 +151,6 @@ started t p a b r v lp on = record {
 abbrev pub Pass : (List ℕ → ℕ → Type 0) → (ℕ → Type 0) → Tables → ℕ → List ℕ → List ℕ → Bool → Type 0
 Pass P D t j a b r = Moves t j a b r × (r ≡ false → (k : ℕ) → D k → P b k)
 
-pub pass_none :
-    (P : List ℕ → ℕ → Type 0) (D : ℕ → Type 0) (t : Tables) (j : ℕ) (a : List ℕ) → ((k : ℕ) → ¬ D k) →
-    Pass P D t j a a false
-pass_none P D t j a none = (moves_none t j a, λ _ k l. absurd (none k l))
-
 pub pass_step :
     (P : List ℕ → ℕ → Type 0) (D E : ℕ → Type 0) {t : Tables} {j : ℕ} {a b c : List ℕ} {was r : Bool} (i : ℕ) →
     ((k : ℕ) → (¬ (k ≡ i)) → E k → D k) →
@@ -171,9 +167,6 @@ pass_step P D E {b = b} {c = c} {was = was} {r = r} i more old new here = (
 
 -- ---- the first items
 
-pub started_none : (t : Tables) (a : List ℕ) → Started t 0 a a
-started_none t a = record { moved = (false, moves_none t 0 a); makes = λ p l h. absurd (omega arith) }
-
 pub started_more :
     (t : Tables) (n : ℕ) (a b c : List ℕ) (r : Bool) → Started t n a b → Moves t 0 b c r →
     (Has t.starts n → Marked c 0 0 (first_of t n)) → Started t (n + 1) a c
@@ -185,14 +178,6 @@ started_more t n a b c r s v here = record {
 }
 
 -- ---- scanning
-
-pub scanned_none : (t : Tables) (j kind : ℕ) (a : List ℕ) → Scanned t j kind 0 a a
-scanned_none t j kind a = record {
-  grows = λ k e h. h;
-  other = λ k o. refl;
-  sound = λ g ws m w s. s;
-  makes = λ i d l. absurd (omega arith);
-}
 
 pub scanned_more :
     (t : Tables) (j kind n : ℕ) (a b c : List ℕ) (r : Bool) → j < 48 → kind < 32 → n < j + 1 →

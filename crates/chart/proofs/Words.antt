@@ -7,6 +7,7 @@ use Rattle.tables.specs.declared.tables.Tables.{Tables}
 use Rattle.tables.specs.Meaning.{first_of, Before, Means}
 use Rattle.theory.specs.Claims.{Awaited, Accepted}
 use Rattle.chart.specs.Chart.{cell_of, Marked, Sound, Charted, WhereCharted}
+use Rattle.chart.specs.declared.items.Places.{Places}
 use Rattle.chart.specs.Cells.{Cleared, Gathered, Meets}
 use Rattle.chart.specs.Columns.{Full, Based, Closes, Scanned, Started, Ends}
 use Rattle.chart.proofs.Growing.{same_set, blank_set}
@@ -111,9 +112,9 @@ taken_back n b e ln cl t g ws a m len chart = record {
 -- ---- what a chart tells
 
 pub awaited :
-    (t : Tables) (n kind lo hi : ℕ) (cells : List ℕ) → n ≤ 48 → kind < 32 → Gathered cells n (n + 1) lo hi →
-    WhereCharted t n cells (λ g ws. Meets lo hi t.before (2 * kind) ↔ Awaited g ws (16 + kind))
-awaited t n kind lo hi cells ln lk ga g ws m len chart = (
+    (t : Tables) (n kind : ℕ) (ps : Places) (cells : List ℕ) → n ≤ 48 → kind < 32 → Gathered cells n (n + 1) ps →
+    WhereCharted t n cells (λ g ws. Meets ps t.before (2 * kind) ↔ Awaited g ws (16 + kind))
+awaited t n kind ps cells ln lk ga g ws m len chart = (
   λ meets.
       let s = ga.only meets.0 meets.1 meets.2 in
       let li = s.1 in

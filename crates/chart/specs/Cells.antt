@@ -1,12 +1,17 @@
 -- Sets of places in cells and in pairs of words: what comes in, and what is left out. Assumes nothing.
-use Rattle.std.specs.Prelude.{◌≡◌, ℕ, ◌+◌, ◌-◌, ◌/◌, ◌%◌, ◌^◌, ◌<◌, ◌≤◌, Bool, false, cond, ◌⊎◌, List, [], ◌∷◌, sum_by, slice_index}
+use Rattle.std.specs.Prelude.{◌≡◌, ℕ, ◌+◌, ◌-◌, ◌/◌, ◌%◌, ◌^◌, ◌<◌, ◌≤◌, Bool, false, cond, ◌⊎◌, ◌↔◌, List, [], ◌∷◌, sum_by, slice_index}
 use Rattle.bitset.specs.Bits.{bit, Has}
 use Rattle.bitset.specs.Cells.{InSet}
 use Rattle.chart.specs.Chart.{Marked}
+use Rattle.chart.specs.declared.items.Places.{Places}
 
 -- the bit of the place d in a set of two words
 abbrev pub pair : ℕ → ℕ → ℕ → ℕ
 pair low high d = bit (slice_index (low ∷ high ∷ []) (d / 64)) (d % 64)
+
+-- the place d is one of the places
+abbrev pub Among : Places → ℕ → Type 0
+Among p d = pair p.low p.high d ≡ 1
 
 -- how much the cells may still grow
 unfoldable pub room : List ℕ → ℕ
@@ -37,15 +42,21 @@ pub record Cleared (start end : ℕ) (a b : List ℕ) : Type 0 where
   pub other : (k : ℕ) → (k < start) ⊎ (end ≤ k) → slice_index b k ≡ slice_index a k
   pub blank : (k : ℕ) → start ≤ k → k < end → slice_index b k ≡ 0
 
--- each place of the words is marked in column j at an origin before n
-abbrev pub Seen : List ℕ → ℕ → ℕ → ℕ → ℕ → Type 0
-Seen cells j n low high = (d : ℕ) → d < 128 → pair low high d ≡ 1 → (i : ℕ) × (i < n) × Marked cells i j d
+-- the places come into the set at `to`
+pub record Joined (to : ℕ) (p : Places) (a b : List ℕ) (r : Bool) : Type 0 where
+  pub growth : Grows a b r
+  pub other : (k : ℕ) → (¬ (k ≡ to)) → (¬ (k ≡ to + 1)) → slice_index b k ≡ slice_index a k
+  pub holds : (d : ℕ) → d < 128 → InSet b to d ↔ (InSet a to d ⊎ Among p d)
 
--- the words hold just what column j marks at the origins before n
-pub record Gathered (cells : List ℕ) (j n low high : ℕ) : Type 0 where
-  pub all : (i d : ℕ) → i < n → d < 128 → Marked cells i j d → pair low high d ≡ 1
-  pub only : Seen cells j n low high
+-- each place is marked in column j at an origin before n
+abbrev pub Seen : List ℕ → ℕ → ℕ → Places → Type 0
+Seen cells j n p = (d : ℕ) → d < 128 → Among p d → (i : ℕ) × (i < n) × Marked cells i j d
 
--- the words and the mask have a place in common
-abbrev pub Meets : ℕ → ℕ → List ℕ → ℕ → Type 0
-Meets low high mask m = (d : ℕ) × (d < 128) × (pair low high d ≡ 1) × InSet mask m d
+-- the places are just those that column j marks at the origins before n
+pub record Gathered (cells : List ℕ) (j n : ℕ) (p : Places) : Type 0 where
+  pub all : (i d : ℕ) → i < n → d < 128 → Marked cells i j d → Among p d
+  pub only : Seen cells j n p
+
+-- one of the places is in the mask
+abbrev pub Meets : Places → List ℕ → ℕ → Type 0
+Meets p mask m = (d : ℕ) × (d < 128) × Among p d × InSet mask m d

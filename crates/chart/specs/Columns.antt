@@ -7,6 +7,7 @@ use Rattle.tables.specs.declared.tables.Tables.{Tables}
 use Rattle.tables.specs.Meaning.{first_of, last_of, Waits, Before, Alive, Means}
 use Rattle.chart.specs.Chart.{cell_of, Marked, Sound}
 use Rattle.chart.specs.Cells.{Grows, Meets}
+use Rattle.chart.specs.declared.items.Places.{Places}
 
 -- the cell k is not of column j
 abbrev pub Outside : ℕ → ℕ → Type 0
@@ -45,9 +46,9 @@ PredictionDone t j cells q =
 abbrev pub Predicted : Tables → ℕ → List ℕ → Type 0
 Predicted t j cells = (q : ℕ) → q < t.count → PredictionDone t j cells q
 
--- if a place of the words waits for the live production q, it begins at j
-abbrev pub Begun : Tables → ℕ → ℕ → ℕ → List ℕ → ℕ → Type 0
-Begun t j low high cells q = Alive t q → Meets low high t.waits (2 * q) → Marked cells j j (first_of t q)
+-- if one of the places waits for the live production q, it begins at j
+abbrev pub Begun : Tables → ℕ → Places → List ℕ → ℕ → Type 0
+Begun t j p cells q = Alive t q → Meets p t.waits (2 * q) → Marked cells j j (first_of t q)
 
 -- the items that end before n are marked
 abbrev pub Full : Tables → Grammar → List ℕ → List ℕ → ℕ → Type 0

@@ -7,7 +7,7 @@ ghost use Rattle.chart.specs.Cells.{Seen};
 ghost use Rattle.chart.specs.Columns.{Moves, AllMoved, ProductionDone, OriginDone, Completed, Begun, Predicted, Closes};
 
 use crate::Cells;
-use crate::items::{Places, add, advance, gather, has, meets};
+use crate::items::{Places, add, advance, gather, has};
 use bitset::contains;
 use tables::tables::Tables;
 
@@ -19,8 +19,8 @@ fn complete(t: &Tables, cells: &mut Cells, s: usize, j: usize, q: usize) -> bool
     ensures done { result ≡ false → AllMoved t.now s j q cells.new }
 {
     let mut changed = false;
-    for i in 0..s + 1 {
-        changed |= advance(cells, i, s, j, &t.waits, 2 * q);
+    for i in 0..=s {
+        changed |= advance(cells, i, s, j, &t.waits, q);
     }
     changed
 }
@@ -40,8 +40,7 @@ fn complete_origin(t: &Tables, cells: &mut Cells, s: usize, j: usize) -> bool
     ensures moved { Moves t.now j cells.old cells.new result }
     ensures done { result ≡ false → OriginDone t.now j cells.new s }
 {
-    let at = 2 * (49 * j + s);
-    if cells[at] | cells[at + 1] == 0 {
+    if Places::at(cells, s, j).is_empty() {
         return false;
     }
     let mut changed = false;
@@ -58,7 +57,7 @@ fn complete_column(t: &Tables, cells: &mut Cells, j: usize) -> bool
     ensures done { result ≡ false → Completed t.now j cells.new }
 {
     let mut changed = false;
-    for s in (0..j + 1).rev() {
+    for s in (0..=j).rev() {
         changed |= complete_origin(t, cells, s, j);
     }
     changed
@@ -67,11 +66,11 @@ fn complete_column(t: &Tables, cells: &mut Cells, j: usize) -> bool
 // Predicts the production q at j, if it is live and one of the places waits for it.
 fn predict(t: &Tables, cells: &mut Cells, j: usize, places: Places, q: usize) -> bool
     requires inside { (j ≤ 48) × (q < t.now.count) }
-    requires seen { Seen cells.old j (j + 1) places.low places.high }
+    requires seen { Seen cells.old j (j + 1) places }
     ensures moved { Moves t.now j cells.old cells.new result }
-    ensures done { Begun t.now j places.low places.high cells.new q }
+    ensures done { Begun t.now j places cells.new q }
 {
-    contains(t.live, q) && meets(places, &t.waits, 2 * q) && add(cells, j, j, t.first[q] as usize)
+    contains(t.live, q) && places.meets(&t.waits, q) && add(cells, j, j, t.first[q] as usize)
 }
 
 // Predicts every live production that an item of column j waits for.

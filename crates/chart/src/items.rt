@@ -1,8 +1,9 @@
 //! Items in the cells of a chart, by origin, end and place, and sets of places.
 
-ghost use Rattle.std.specs.Prelude.{◌≡◌, ◌+◌, ◌*◌, ◌<◌, ◌≤◌, true, false, length, set, bit_or, slice_index, slice_set};
+ghost use Rattle.std.specs.Prelude.{◌≡◌, ℕ, ◌+◌, ◌*◌, ◌<◌, ◌≤◌, true, false, ◌⊎◌, ◌↔◌, length, bit_or, slice_index, slice_set};
+ghost use Rattle.bitset.specs.Cells.{InSet};
 ghost use Rattle.chart.specs.Chart.{cell_of, Marked};
-ghost use Rattle.chart.specs.Cells.{Grows, Added, Advanced, Cleared, Gathered, Meets};
+ghost use Rattle.chart.specs.Cells.{Among, Grows, Added, Joined, Advanced, Cleared, Gathered, Meets};
 
 use crate::Cells;
 use bitset::cells::{is_marked, mark};
@@ -10,8 +11,87 @@ use bitset::cells::{is_marked, mark};
 // A set of places: the place d is bit d of `low`, or bit d - 64 of `high`.
 #[derive(Clone, Copy)]
 pub(crate) struct Places {
-    pub(crate) low: u64,
-    pub(crate) high: u64,
+    low: u64,
+    high: u64,
+}
+
+impl Places {
+    // The set of number x in the cells.
+    fn of(cells: &[u64], x: usize) -> Places
+        requires { 2 * x + 1 < length cells.now }
+        ensures { (d : ℕ) → d < 128 → Among result d ↔ InSet cells.now (2 * x) d }
+    {
+        Places {
+            low: cells[2 * x],
+            high: cells[2 * x + 1],
+        }
+    }
+
+    // The places of the items with origin i and end j.
+    pub(crate) fn at(cells: &Cells, i: usize, j: usize) -> Places
+        requires { (i ≤ 48) × (j ≤ 48) }
+        ensures { (d : ℕ) → d < 128 → Among result d ↔ Marked cells.now i j d }
+    {
+        Places::of(cells, 49 * j + i)
+    }
+
+    // The places that are in one of the sets.
+    fn or(self, other: Places) -> Places
+        ensures { (d : ℕ) → d < 128 → Among result d ↔ (Among self d ⊎ Among other d) }
+    {
+        Places {
+            low: self.low | other.low,
+            high: self.high | other.high,
+        }
+    }
+
+    // The places that are in both sets.
+    fn and(self, other: Places) -> Places
+        ensures { (d : ℕ) → d < 128 → Among result d ↔ (Among self d × Among other d) }
+    {
+        Places {
+            low: self.low & other.low,
+            high: self.high & other.high,
+        }
+    }
+
+    // Each place one up.
+    fn next(self) -> Places
+        ensures none { ¬ Among result 0 }
+        ensures up { (d : ℕ) → d + 1 < 128 → Among result (d + 1) ↔ Among self d }
+    {
+        Places {
+            low: self.low << 1,
+            high: (self.high << 1) | (self.low >> 63),
+        }
+    }
+
+    // Whether there is no place in the set.
+    pub(crate) fn is_empty(self) -> bool
+        ensures yes { result ≡ true → (d : ℕ) → d < 128 → ¬ Among self d }
+        ensures no { result ≡ false → (d : ℕ) × (d < 128) × Among self d }
+    {
+        self.low | self.high == 0
+    }
+
+    // Whether one of the places is in the set of number x in the mask.
+    pub(crate) fn meets(self, mask: &[u64], x: usize) -> bool
+        requires { 2 * x + 1 < length mask.now }
+        ensures yes { result ≡ true → Meets self mask.now (2 * x) }
+        ensures no { result ≡ false → ¬ Meets self mask.now (2 * x) }
+    {
+        !self.and(Places::of(mask, x)).is_empty()
+    }
+
+    // Adds the places to the set of number x in the cells, and tells whether that changed them.
+    fn join(self, cells: &mut Cells, x: usize) -> bool
+        requires { x < 2401 }
+        ensures { Joined (2 * x) self cells.old cells.new result }
+    {
+        let one = join_cell(cells, 2 * x, self.low);
+        let two = join_cell(cells, 2 * x + 1, self.high);
+        one | two
+    }
 }
 
 // Whether the item with origin i, end j and the place d is in the chart.
@@ -24,8 +104,8 @@ pub fn has(cells: &Cells, i: usize, j: usize, d: usize) -> bool
 }
 
 // Adds bits to the cell k and tells whether that changed it.
-fn join(cells: &mut Cells, k: usize, bits: u64) -> bool
-    requires { k < length cells.old }
+fn join_cell(cells: &mut Cells, k: usize, bits: u64) -> bool
+    requires { k < 4802 }
     ensures same { cells.new ≡ slice_set cells.old k (bit_or (slice_index cells.old k) bits) }
     ensures growth { Grows cells.old cells.new result }
 {
@@ -43,58 +123,38 @@ pub(crate) fn add(cells: &mut Cells, i: usize, j: usize, d: usize) -> bool
     mark(cells, 49 * j + i, d)
 }
 
-// Moves the dot over one symbol: for each item with origin i and end s whose place is in the set at m of the mask, adds
-// the item with end j and the next place. Tells whether that changed the cells.
+// Moves the dot over one symbol: for each item with origin i and end s whose place is in the set of number x in the mask,
+// adds the item with end j and the next place. Tells whether that changed the cells.
 pub(crate) fn advance(
     cells: &mut Cells,
     i: usize,
     s: usize,
     j: usize,
     mask: &[u64],
-    m: usize,
+    x: usize,
 ) -> bool
-    requires inside { (i ≤ 48) × ((s ≤ 48) × ((j ≤ 48) × (m + 1 < length mask.now))) }
-    ensures { Advanced (cell_of i j) (cell_of i s) mask.now m cells.old cells.new result }
+    requires inside { (i ≤ 48) × ((s ≤ 48) × ((j ≤ 48) × (2 * x + 1 < length mask.now))) }
+    ensures { Advanced (cell_of i j) (cell_of i s) mask.now (2 * x) cells.old cells.new result }
 {
-    let from = 2 * (49 * s + i);
-    let low = cells[from] & mask[m];
-    let high = cells[from + 1] & mask[m + 1];
-    if low | high == 0 {
-        return false;
-    }
-    let to = 2 * (49 * j + i);
-    let one = join(cells, to, low << 1);
-    let two = join(cells, to + 1, (high << 1) | (low >> 63));
-    one | two
+    let moved = Places::at(cells, i, s).and(Places::of(mask, x));
+    !moved.is_empty() && moved.next().join(cells, 49 * j + i)
 }
 
 // The places of the items of column j, of any origin.
 pub(crate) fn gather(cells: &Cells, j: usize) -> Places
     requires inside { j ≤ 48 }
-    ensures { Gathered cells.now j (j + 1) result.low result.high }
+    ensures { Gathered cells.now j (j + 1) result }
 {
-    let mut low = 0;
-    let mut high = 0;
-    for i in 0..j + 1 {
-        let at = 2 * (49 * j + i);
-        low |= cells[at];
-        high |= cells[at + 1];
+    let mut all = Places { low: 0, high: 0 };
+    for i in 0..=j {
+        all = all.or(Places::at(cells, i, j));
     }
-    Places { low, high }
-}
-
-// Whether one of the places is in the set at m of the mask too.
-pub(crate) fn meets(places: Places, mask: &[u64], m: usize) -> bool
-    requires { m + 1 < length mask.now }
-    ensures yes { result ≡ true → Meets places.low places.high mask.now m }
-    ensures no { result ≡ false → ¬ Meets places.low places.high mask.now m }
-{
-    (places.low & mask[m]) | (places.high & mask[m + 1]) != 0
+    all
 }
 
 // Empties the cells from `start` to `end`.
 pub(crate) fn clear(cells: &mut Cells, start: usize, end: usize)
-    requires { (start ≤ end) × (end ≤ length cells.old) }
+    requires { (start ≤ end) × (end ≤ 4802) }
     ensures { Cleared start end cells.old cells.new }
 {
     cells[start..end].fill(0);

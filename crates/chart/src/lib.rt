@@ -21,7 +21,7 @@ pub mod items;
 
 use bitset::{contains, with};
 use closing::close_column;
-use items::{Places, add, advance, clear, gather, has, meets};
+use items::{add, advance, clear, gather, has};
 use tables::tables::Tables;
 
 // How many cells a chart has: two for each origin and each end.
@@ -43,7 +43,7 @@ pub fn open_chart(t: &Tables, cells: &mut Cells)
     requires { 4802 ≤ length cells.old }
     ensures { (g : Grammar) → Means t.now g → Charted t.now g [] cells.new }
 {
-    clear(cells, 0, 4802);
+    clear(cells, 0, CELL_COUNT);
     for p in 0..t.count {
         add_start(t, cells, p);
     }
@@ -55,8 +55,8 @@ fn scan(t: &Tables, cells: &mut Cells, j: usize, kind: usize)
     requires inside { (j < 48) × (kind < 32) }
     ensures { Scanned t.now j kind (j + 1) cells.old cells.new }
 {
-    for i in 0..j + 1 {
-        advance(cells, i, j, j + 1, &t.before, 2 * kind);
+    for i in 0..=j {
+        advance(cells, i, j, j + 1, &t.before, kind);
     }
 }
 
@@ -70,7 +70,7 @@ pub fn put(t: &Tables, cells: &mut Cells, n: usize, kind: usize) -> bool
         (cells.new ≡ cells.old)
         × WhereCharted t.now n cells.old (λ g ws. ¬ Awaited g ws (16 + kind)) }
 {
-    if !meets(gather(cells, n), &t.before, 2 * kind) {
+    if !gather(cells, n).meets(&t.before, kind) {
         return false;
     }
     scan(t, cells, n, kind);
@@ -108,19 +108,6 @@ pub fn accepts(t: &Tables, cells: &Cells, n: usize) -> bool
     (0..t.count).any(|q| spans(t, cells, n, q))
 }
 
-// The set of kinds with the kind in it, if a place waits for it.
-fn with_kind(t: &Tables, places: Places, kinds: u32, kind: usize) -> u32
-    requires { kind < 32 }
-    ensures { (b : ℕ) →
-        Has result b ↔ (Has kinds b ⊎ ((b ≡ kind) × Meets places.low places.high t.now.before (2 * kind))) }
-{
-    if meets(places, &t.before, 2 * kind) {
-        with(kinds, kind)
-    } else {
-        kinds
-    }
-}
-
 // The set of the kinds that an item behind the n words of the chart waits for.
 pub fn expected_kinds(t: &Tables, cells: &Cells, n: usize) -> u32
     requires inside { n ≤ 48 }
@@ -130,7 +117,9 @@ pub fn expected_kinds(t: &Tables, cells: &Cells, n: usize) -> u32
     let places = gather(cells, n);
     let mut kinds = 0;
     for kind in 0..32 {
-        kinds = with_kind(t, places, kinds, kind);
+        if places.meets(&t.before, kind) {
+            kinds = with(kinds, kind);
+        }
     }
     kinds
 }

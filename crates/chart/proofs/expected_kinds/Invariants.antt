@@ -5,4 +5,4 @@ use Rattle.chart.proofs.expected_kinds.Given as goal
 
 abbrev pub invariant-loop-kind : goal.invariant-loop-kind
 invariant-loop-kind l =
-    (b : ℕ) → Has l.kinds b ↔ ((b < l.kind) × Meets l.places.low l.places.high l.t.before (2 * b))
+    (b : ℕ) → Has l.kinds b ↔ ((b < l.kind) × Meets l.places l.t.before (2 * b))

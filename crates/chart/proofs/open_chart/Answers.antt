@@ -1,10 +1,7 @@
 use Rattle.std.proofs.Common.{arith}
-use Rattle.chart.proofs.Steady.{started_none, started_more}
+use Rattle.chart.proofs.Steady.{started_more}
 use Rattle.chart.proofs.Words.{opened}
 use Rattle.chart.proofs.open_chart.Goals as goal
-
-pub loop-p-init : goal.loop-p-init
-loop-p-init c = started_none c.args.t.now c.clear.new.cells
 
 pub loop-p-preserved : goal.loop-p-preserved
 loop-p-preserved c =

@@ -1,10 +1,6 @@
-use Rattle.std.proofs.Common.{false}
-use Rattle.chart.proofs.Steady.{moves_none, moves_then}
+use Rattle.chart.proofs.Steady.{moves_then}
 use Rattle.chart.proofs.Columns.{closes}
 use Rattle.chart.proofs.closing.close_column.Goals as goal
-
-pub loop-init : goal.loop-init
-loop-init c = (false, moves_none c.args.t.now c.args.j c.args.cells.now)
 
 pub returns-clause-closed : goal.returns-clause-closed
 returns-clause-closed c =

@@ -1,28 +1,33 @@
-use Rattle.std.proofs.Common.{◌+◌, ◌<◌, subst, arith}
+use Rattle.std.proofs.Common.{ℕ, ◌+◌, ◌*◌, ◌<◌, ◌≤◌, Bool, ◌||◌, List, subst, arith}
+use Rattle.tables.specs.declared.tables.Tables.{Tables}
 use Rattle.tables.specs.Meaning.{last_of}
 use Rattle.chart.specs.Chart.{cell_of, Marked}
+use Rattle.chart.specs.Cells.{Advanced}
 use Rattle.chart.specs.Columns.{MovedOn}
 use Rattle.chart.proofs.Growing.{kept}
-use Rattle.chart.proofs.Steady.{pass_none, pass_step, completed}
+use Rattle.chart.proofs.Steady.{Pass, pass_step, completed}
 use Rattle.chart.proofs.closing.complete.Goals as goal
 
-pub loop-i-init : goal.loop-i-init
-loop-i-init c =
-    pass_none (MovedOn c.args.t.now c.args.s c.args.j c.args.q) (λ k. k < 0) c.args.t.now c.args.j c.args.cells.now
-    (λ k l. omega arith)
+-- the items with origin i move on too
+one_more :
+    (t : Tables) (i s j q : ℕ) (a b d : List ℕ) (was r : Bool) → i ≤ s → s ≤ j → j ≤ 48 → q < t.count →
+    Marked a s j (last_of t q) → Pass (MovedOn t s j q) (λ k. k < i) t j a b was →
+    Advanced (cell_of i j) (cell_of i s) t.waits (2 * q) b d r →
+    Pass (MovedOn t s j q) (λ k. k < i + 1) t j a d (was || r)
+one_more t i s j q a b d was r li ls lj lq whole old v =
+    let still_whole = kept old.0.growth (cell_of s j) (last_of t q) whole in
+    pass_step (MovedOn t s j q) (λ k. k < i) (λ k. k < i + 1) i (λ k n l. omega (arith, n)) old
+    (completed t i s j q b d r v li ls lj lq still_whole)
+    (λ same p l h w. v.makes p l (subst (λ x. Marked x i s p) (v.growth.quiet same) h) w)
 
 pub loop-i-preserved : goal.loop-i-preserved
 loop-i-preserved c =
-    let t = c.args.t.now in
-    let j = c.args.j in
-    let s = c.args.s in
-    let q = c.args.q in
-    let i = c.loop-i.i in
-    let whole = kept c.loop-i.invariant.0.growth (cell_of s j) (last_of t q) c.requires.whole in
-    let v = c.advance-changed.ensures in
-    pass_step (MovedOn t s j q) (λ k. k < i) (λ k. k < i + 1) i (λ k n l. omega (arith, n)) c.loop-i.invariant
-    (completed t i s j q c.loop-i.cells _ _ v (omega arith) (omega arith) (omega arith) (omega arith) whole)
-    (λ same d l h w. v.makes d l (subst (λ x. Marked x i s d) (v.growth.quiet same) h) w)
+    one_more c.args.t.now c.loop-i.i c.args.s c.args.j c.args.q c.args.cells.now c.loop-i.cells _ _ _ (omega arith) (omega arith)
+    (omega arith) (omega arith) c.requires.whole c.loop-i.invariant c.advance-changed.ensures
 
-pub returns : goal.returns
-returns c = record { moved = c.loop-i.invariant.0; done = λ same i l. c.loop-i.invariant.1 same i (omega arith) }
+pub returns-2 : goal.returns-2
+returns-2 c =
+    let all =
+    one_more c.args.t.now c.loop-i.i c.args.s c.args.j c.args.q c.args.cells.now c.loop-i.cells _ _ _ (omega arith) (omega arith)
+    (omega arith) (omega arith) c.requires.whole c.loop-i.invariant c.advance-changed.ensures in
+    record { moved = all.0; done = λ same i l. all.1 same i (omega arith) }

@@ -1,20 +1,12 @@
-use Rattle.std.proofs.Common.{◌+◌, ◌-◌, ◌<◌, ◌≤◌, arith}
+use Rattle.std.proofs.Common.{◌+◌, ◌-◌, ◌<◌, arith}
 use Rattle.chart.specs.Columns.{OriginDone}
-use Rattle.chart.proofs.Steady.{pass_none, pass_step}
+use Rattle.chart.proofs.Steady.{pass_step}
 use Rattle.chart.proofs.closing.complete_column.Goals as goal
-
-pub loop-s-init : goal.loop-s-init
-loop-s-init c =
-    let j = c.args.j in
-    pass_none (OriginDone c.args.t.now j) (λ k. (j + 1 ≤ k) × (k < j + 1)) c.args.t.now j c.args.cells.now (λ k l. omega arith)
 
 pub loop-s-preserved : goal.loop-s-preserved
 loop-s-preserved c =
     let j = c.args.j in
     let s = c.loop-s.s in
     let v = c.complete_origin-changed.ensures in
-    pass_step (OriginDone c.args.t.now j) (λ k. (s ≤ k) × (k < j + 1)) (λ k. (s - 1 ≤ k) × (k < j + 1)) (s - 1)
+    pass_step (OriginDone c.args.t.now j) (λ k. (s < k) × (k < j + 1)) (λ k. (s - 1 < k) × (k < j + 1)) s
     (λ k n l. let low = l.0 in let high = l.1 in (omega (arith, n), high)) c.loop-s.invariant v.moved v.done
-
-pub returns : goal.returns
-returns c = record { moved = c.loop-s.invariant.0; done = λ same s l. c.loop-s.invariant.1 same s (omega arith, l) }

@@ -1,18 +1,14 @@
 use Rattle.std.proofs.Common.{◌+◌, ◌<◌, subst, arith}
 use Rattle.chart.specs.Chart.{Marked}
 use Rattle.chart.specs.Columns.{Begun}
-use Rattle.chart.proofs.Steady.{pass_none, pass_step}
+use Rattle.chart.proofs.Steady.{pass_step}
 use Rattle.chart.proofs.closing.predict_column.Goals as goal
-
-pub loop-q-init : goal.loop-q-init
-loop-q-init c =
-    pass_none (Begun c.args.t.now c.args.j _ _) (λ k. k < 0) c.args.t.now c.args.j c.args.cells.now (λ k l. omega arith)
 
 pub loop-q-preserved : goal.loop-q-preserved
 loop-q-preserved c =
     let q = c.loop-q.q in
     let v = c.predict-changed.ensures in
-    pass_step (Begun c.args.t.now c.args.j _ _) (λ k. k < q) (λ k. k < q + 1) q (λ k n l. omega (arith, n))
+    pass_step (Begun c.args.t.now c.args.j _) (λ k. k < q) (λ k. k < q + 1) q (λ k n l. omega (arith, n))
     c.loop-q.invariant v.moved (λ _. v.done)
 
 pub returns : goal.returns
