@@ -5,4 +5,5 @@ pub mod Sound
 pub mod Trees
 pub mod Items
 pub mod Refusals
+pub mod Bytes
 pub mod Model

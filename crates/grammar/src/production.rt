@@ -1,15 +1,16 @@
-ghost use Rattle.std.specs.Prelude.{◌≡◌, ◌≤◌, length};
+ghost use Rattle.std.specs.Prelude.{◌≤◌};
+
+use crate::bytes::Bytes;
 
 mod methods;
+
+pub use methods::place_count;
 
 // A production: its left nonterminal, its right side of at most six symbols, and its price.
 #[derive(Clone, Copy)]
 pub struct Production {
     left: u8,
-    right: [u8; 6],
-    len: usize,
+    right: Bytes<6>,
     price: u16,
-    ghost whole: { length right ≡ 6 },
-    ghost short: { len ≤ 6 },
     ghost priced: { price ≤ 65535 },
 }
