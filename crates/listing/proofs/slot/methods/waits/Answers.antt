@@ -2,7 +2,7 @@ use Rattle.std.proofs.Common.{◌+◌, ◌*◌, ◌/◌, ◌%◌, ◌^◌, get_o
 use Rattle.std.proofs.lemmas.Bool.{eqb-true, eqb-false}
 use Rattle.bitset.specs.Bits.{bit}
 use Rattle.bitset.proofs.Digits.{and_one}
-use Rattle.listing.proofs.sources.waits.Goals as goal
+use Rattle.listing.proofs.slot.methods.waits.Goals as goal
 
 pub returns : goal.returns
 unfolding bit
