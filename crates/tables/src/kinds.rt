@@ -7,7 +7,7 @@ ghost use Rattle.tables.specs.Entries.{Tabulates, KindNext};
 ghost use Rattle.tables.specs.Places.{Firsts};
 ghost use Rattle.tables.specs.Sets.{Marked};
 
-use crate::marking::mark;
+use bitset::cells::mark;
 use grammar::production::Production;
 
 // Puts the place d into the set of the symbol, if that is a kind.

@@ -7,7 +7,7 @@ ghost use Rattle.bitset.specs.Bits.{Has};
 ghost use Rattle.tables.specs.Filling.{Filled, Fillable, FillableAt, WhereWaits, LiveSet};
 ghost use Rattle.tables.specs.Places.{Firsts};
 
-use crate::marking::is_marked;
+use bitset::cells::is_marked;
 use bitset::{contains, with};
 use grammar::production::Production;
 
