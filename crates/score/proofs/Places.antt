@@ -59,5 +59,8 @@ module _ (ps : List Stored) (q : ℕ) (d : Stored) (l : q < length (productions 
   pub read_right : (v : List ℕ) → v ≡ (production (get_or ps q d)).right → v ≡ right_at (productions ps) q
   read_right v e = e ∙ ap (λ (p : Production). p.right) read_at
 
+  pub read_places : (v : ℕ) → v ≡ length (production (get_or ps q d)).right + 1 → v ≡ length (right_at (productions ps) q) + 1
+  read_places v e = e ∙ ap (λ (p : Production). length p.right + 1) read_at
+
   pub read_price : (v : ℕ) → v ≡ (production (get_or ps q d)).price → v ≡ (production_at (productions ps) q).price
   read_price v e = e ∙ ap (λ (p : Production). p.price) read_at

@@ -3,6 +3,7 @@ ghost use Rattle.score.specs.Inputs.{productions_in, HasEntry, place_in, index_i
 
 use super::Input;
 use crate::entry::Entry;
+use bitset::cells::is_marked;
 
 impl<'a> Input<'a> {
     // The place of the entry.
@@ -30,8 +31,7 @@ impl<'a> Input<'a> {
         ensures yes { result ≡ true → WaitsIn self.now entry.production entry.dot q }
         ensures no { result ≡ false → ¬ WaitsIn self.now entry.production entry.dot q }
     {
-        let place = self.place(entry);
-        (self.tables.waits[2 * q + place / 64] >> (place % 64)) & 1 == 1
+        is_marked(&self.tables.waits, q, self.place(entry))
     }
 
     // The level of the entry.

@@ -1,25 +1,11 @@
 ghost use Rattle.std.specs.Prelude.{◌≡◌, ◌+◌, ◌-◌, ◌<◌, ◌≤◌, length};
-ghost use Rattle.grammar.specs.Grammar.{places};
-ghost use Rattle.grammar.specs.Model.{productions as productions_of};
 ghost use Rattle.score.specs.Inputs.{productions_in, words_in, HasEntry, stage, stage_at, entries_in};
 ghost use Rattle.score.specs.Filling.{Kept, Fills, Blank, AllRight};
 
 use super::Sums;
 use crate::entry::{Entry, Span};
-use grammar::production::Production;
+use grammar::production::place_count;
 use scales::Semiring;
-
-// How many places the productions have.
-fn count_places(productions: &[Production]) -> usize
-    requires small { places (productions_of productions.now) ≤ 128 }
-    ensures { result ≡ places (productions_of productions.now) }
-{
-    let mut count = 0;
-    for p in productions {
-        count += p.right().len() + 1;
-    }
-    count
-}
 
 impl<'a, 's, S: Semiring> Sums<'a, 's, S> {
     // Fills in the entry, if it is of the level.
@@ -45,7 +31,7 @@ impl<'a, 's, S: Semiring> Sums<'a, 's, S> {
         ensures kept { Kept self.old self.new }
         ensures fills { Fills S.Semiring.scale self.old.input.now self.old.table.now self.new.table.now (stage_at span level p 0) (stage_at span level (p + 1) 0) }
     {
-        for dot in 0..self.input.productions[p].right().len() + 1 {
+        for dot in 0..self.input.productions[p].places() {
             let entry = Entry {
                 production: p,
                 dot,
@@ -97,7 +83,7 @@ impl<'a, 's, S: Semiring> Sums<'a, 's, S> {
         ensures blank { Blank S.Semiring.scale (entries_in self.old.input.now) self.old.table.now self.new.table.now }
     {
         let wide = self.input.words.len() + 1;
-        let count = count_places(self.input.productions) * (wide * wide);
+        let count = place_count(self.input.productions) * (wide * wide);
         self.table[..count].fill_with(|| S::none());
     }
 

@@ -29,6 +29,6 @@ returns-clause-blank g c =
     let x = c.args.self.now.input.now in
     let wide = length x.words.now + 1 in
     let s = g.S.Semiring.scale in
-    cleared s c.args.self.now.table.now c.fill_with.new.self (c.count_places.result * (wide * wide)) _ c.args.self.now.room
-    (ap (λ z. z * (wide * wide)) c.count_places.ensures) c.fill_with.ensures.len
+    cleared s c.args.self.now.table.now c.fill_with.new.self (c.place_count.result * (wide * wide)) _ c.args.self.now.room
+    (ap (λ z. z * (wide * wide)) c.place_count.ensures) c.fill_with.ensures.len
     (all_are _ s.none (λ p y q h. search rules) _ _ _ c.fill_with.ensures.ran.1)
