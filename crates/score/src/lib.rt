@@ -26,6 +26,7 @@ mod entry;
 mod input;
 mod sums;
 mod tails;
+mod total;
 
 // The score of the words. The table is left with the sums over all ways.
 pub fn score<S: Semiring>(

@@ -5,6 +5,7 @@ ghost use Rattle.score.specs.Filling.{held, whole_of, Term, Terms, Root};
 
 use super::Sums;
 use crate::entry::{Entry, Span};
+use crate::total::total;
 use scales::Semiring;
 
 impl<'a, 's, S: Semiring> Sums<'a, 's, S> {
@@ -64,11 +65,7 @@ impl<'a, 's, S: Semiring> Sums<'a, 's, S> {
             Terms S.Semiring.scale self.now.input.now self.now.table.now entry.production entry.dot entry.span.start entry.span.end end f →
             result ≡ sum_below S.Semiring.scale (length (productions_in self.now.input.now)) f }
     {
-        let mut sum = S::none();
-        for q in 0..self.input.productions.len() {
-            sum = sum.plus(self.term(entry, q, end));
-        }
-        sum
+        total(self.input.productions.len(), |q| self.term(entry, q, end))
     }
 
     // The sum over all splits of the entry's span at which a production stands behind its dot.
@@ -125,10 +122,6 @@ impl<'a, 's, S: Semiring> Sums<'a, 's, S> {
             ((p : ℕ) → p < length (productions_in self.now.input.now) → Root S.Semiring.scale self.now.input.now self.now.table.now start p (f p)) →
             result ≡ sum_below S.Semiring.scale (length (productions_in self.now.input.now)) f }
     {
-        let mut sum = S::none();
-        for p in 0..self.input.productions.len() {
-            sum = sum.plus(self.root(start, p));
-        }
-        sum
+        total(self.input.productions.len(), |p| self.root(start, p))
     }
 }
