@@ -13,7 +13,10 @@ fn tail(right: &[u8], set: u32) -> u8
     requires short { length right.now ≤ 6 }
     ensures { Tail (Has set) right.now result }
 {
-    match right.iter().rposition(|symbol| !contains(set, usize::from(*symbol))) {
+    match right
+        .iter()
+        .rposition(|symbol| !contains(set, usize::from(*symbol)))
+    {
         Some(last) => last as u8 + 1,
         None => 0,
     }

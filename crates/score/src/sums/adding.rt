@@ -57,15 +57,31 @@ impl<'a, 's, S: Semiring> Sums<'a, 's, S> {
         }
     }
 
-    // What all productions add.
-    fn split(&self, entry: Entry, end: usize) -> S
+    // What all productions add behind the dot of the entry, if its span is split behind the words that are taken.
+    fn split(&self, entry: Entry, taken: usize) -> S
         requires inside { HasEntry self.now.input.now entry }
-        requires span { (entry.span.end ≤ end) × (end ≤ length (words_in self.now.input.now)) }
+        requires within { entry.span.start + taken ≤ entry.span.end }
         ensures { (f : ℕ → S) →
-            Terms S.Semiring.scale self.now.input.now self.now.table.now entry.production entry.dot entry.span.start entry.span.end end f →
+            Terms S.Semiring.scale self.now.input.now self.now.table.now entry.production entry.dot entry.span.start (entry.span.start + taken) entry.span.end f →
             result ≡ sum_below S.Semiring.scale (length (productions_in self.now.input.now)) f }
     {
-        total(self.input.productions.len(), |q| self.term(entry, q, end))
+        let Entry {
+            production,
+            dot,
+            span,
+        } = entry;
+        let before = Entry {
+            production,
+            dot,
+            span: Span {
+                start: span.start,
+                end: span.start + taken,
+            },
+        };
+        total(
+            self.input.productions.len(),
+            |q| self.term(before, q, span.end),
+        )
     }
 
     // The sum over all splits of the entry's span at which a production stands behind its dot.
@@ -78,24 +94,10 @@ impl<'a, 's, S: Semiring> Sums<'a, 's, S> {
             ≡ sum_below S.Semiring.scale (suc (entry.span.end - entry.span.start))
             (λ d. sum_below S.Semiring.scale (length (productions_in self.now.input.now)) (λ q. f (entry.span.start + d) q)) }
     {
-        let Entry {
-            production,
-            dot,
-            span,
-        } = entry;
-        let mut sum = S::none();
-        for end in span.start..span.end + 1 {
-            let before = Entry {
-                production,
-                dot,
-                span: Span {
-                    start: span.start,
-                    end,
-                },
-            };
-            sum = sum.plus(self.split(before, span.end));
-        }
-        sum
+        total(
+            entry.span.end - entry.span.start + 1,
+            |taken| self.split(entry, taken),
+        )
     }
 
     // What the production p adds to the score: its sum over all the words, if its left side is the start symbol.

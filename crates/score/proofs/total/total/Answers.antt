@@ -1,4 +1,4 @@
-use Rattle.std.proofs.Common.{refl, arith}
+use Rattle.std.proofs.Common.{arith}
 use Rattle.score.proofs.Adding.{sum_none, sum_more, sum_to}
 use Rattle.score.proofs.total.total.Goals as goal
 
