@@ -4,7 +4,7 @@ use Rattle.std.proofs.lemmas.List.{length-set, get_or-set_same, get_or-set_other
 use Rattle.std.proofs.lemmas.Bool.{cases_eq}
 use Rattle.grammar.specs.Grammar.{Rule}
 use Rattle.scales.specs.Scales.{Scale}
-use Rattle.score.specs.Inputs.{Fit, Inside, index_in, entries_in, stage_in, Given}
+use Rattle.score.specs.Inputs.{Inside, index_in, entries_in, stage_in, Given}
 use Rattle.score.specs.Filling.{held, Right, Makes, Fills}
 use Rattle.score.specs.declared.input.Input.{Input}
 use Rattle.score.proofs.Places.{index_low, index_unique}
@@ -20,6 +20,10 @@ module _ {S : Type 0} (s : Scale S) (x : Input) where
     later = λ k d l. h.later k d l ∙ f.later k d l;
     right = λ start rs W given r. h.right start rs W given (f.right start rs W given r);
   }
+
+  -- the same where what the sums are taken over is known to be the same
+  pub fills_next : (y : Input) (t u v : List S) (a b c : ℕ) → y ≡ x → Fills s x t u a b → Fills s y u v b c → Fills s x t v a c
+  fills_next y t u v a b c e f h = fills_then t u v a b c f (subst (λ z. Fills s z u v b c) e h)
 
   -- stages that no entry has are passed over
   pub fills_on :
@@ -38,7 +42,7 @@ module _ {S : Type 0} (s : Scale S) (x : Input) where
   pub fills_at : (t u : List S) (a b c d : ℕ) → a ≡ c → b ≡ d → Fills s x t u a b → Fills s x t u c d
   fills_at t u a b c d e h f = subst (λ z. Fills s x t u z d) e (subst (λ z. Fills s x t u a z) h f)
 
-  module _ (fit : Fit x) (t : List S) (p k i j : ℕ) (inside : Inside x p k i j) (lij : i ≤ j) (room : entries_in x ≤ length t) (v : S)
+  module _ (t : List S) (p k i j : ℕ) (inside : Inside x p k i j) (lij : i ≤ j) (room : entries_in x ≤ length t) (v : S)
       (makes : Makes s x t p k i j v) where
     module _ (start : ℕ) (rs : List Rule) (W : ℕ → ℕ → ℕ → ℕ → S) (given : Given s x start rs W) (r : Right s x W t (stage_in x p k i j)) where
       is : held s x (set t (index_in x p k i j) v) p k i j ≡ W p k i j
@@ -70,7 +74,7 @@ module _ {S : Type 0} (s : Scale S) (x : Input) where
             (λ (apart : ¬ (index_in x p k i j ≡ index_in x q l m n)).
             ⊎_elim
             (λ (e : stage_in x p k i j ≡ stage_in x q l m n).
-            same q l m n (stage_unique s x fit start rs W given p k i j q l m n inside h lij lmn e))
+            same q l m n (stage_unique s x start rs W given p k i j q l m n inside h lij lmn e))
             (λ (ne : ¬ (stage_in x p k i j ≡ stage_in x q l m n)).
             other q l m n apart ∙ r.done q l m n h lmn (omega (arith, ne)))
             (cases_eq (stage_in x p k i j) (stage_in x q l m n)))

@@ -6,8 +6,9 @@ use Rattle.grammar.specs.Grammar.{Production, no_production, production_at, left
 use Rattle.grammar.specs.Model.{production, productions}
 use Rattle.tables.proofs.Counting.{last_low, place_unique, stored_at}
 use Rattle.score.specs.Filled.{entry_at}
-use Rattle.score.specs.Inputs.{productions_in, words_in, Fit, Inside, place_in, index_in, entries_in}
+use Rattle.score.specs.Inputs.{productions_in, words_in, Inside, HasEntry, place_in, index_in, entries_in}
 use Rattle.score.specs.declared.input.Input.{Input}
+use Rattle.score.specs.declared.entry.Entry.{Entry}
 use Rattle.score.proofs.Indices.{entry_low, entry_unique, table_low}
 
 module _ (x : Input) where
@@ -19,6 +20,10 @@ module _ (x : Input) where
   index_low p k i j h =
       entry_low (length (words_in x)) (places (productions_in x)) (place_in x p k) i j (place_low p k h.0 h.1) h.2 h.3
 
+  pub index_below :
+      (e : Entry) → HasEntry x e → (k size : ℕ) → k ≡ index_in x e.production e.dot e.span.start e.span.end → entries_in x ≤ size → k < size
+  index_below e h k size is room = let a = index_low e.production e.dot e.span.start e.span.end h in omega arith
+
   -- no two are one
   pub index_unique :
       (p k i j q l m n : ℕ) → Inside x p k i j → Inside x q l m n → index_in x p k i j ≡ index_in x q l m n →
@@ -28,21 +33,20 @@ module _ (x : Input) where
       let v = place_unique (productions_in x) p k q l h.0 h.1 t.0 t.1 u.0 in
       (v.0, v.1, u.1, u.2)
 
-  module _ (fit : Fit x) where
-    -- the place as the tables have it
-    pub first_low :
-        (p k : ℕ) → p < length (productions_in x) → k ≤ length (right_at (productions_in x) p) →
-        get_or x.tables.now.first p 0 + k < 128
-    first_low p k kp lk = let a = place_low p k kp lk in let b = fit.firsts p kp in let c = fit.small in omega arith
+  -- the place as the tables have it
+  pub first_low :
+      (p k : ℕ) → p < length (productions_in x) → k ≤ length (right_at (productions_in x) p) →
+      get_or x.tables.now.first p 0 + k < 128
+  first_low p k kp lk = let a = place_low p k kp lk in let b = x.firsts p kp in let c = x.small in omega arith
 
-    -- the index by it
-    pub read_low :
-        (p k i j : ℕ) → Inside x p k i j → entry_at (length (words_in x)) (get_or x.tables.now.first p 0 + k) i j < 307328
-    read_low p k i j h =
-        let n = length (words_in x) in
-        let a = entry_low n 128 (get_or x.tables.now.first p 0 + k) i j (first_low p k h.0 h.1) h.2 h.3 in
-        let b = table_low n 128 fit.few_words (omega arith) in
-        omega arith
+  -- the index by it
+  pub read_low :
+      (p k i j : ℕ) → Inside x p k i j → entry_at (length (words_in x)) (get_or x.tables.now.first p 0 + k) i j < 307328
+  read_low p k i j h =
+      let n = length (words_in x) in
+      let a = entry_low n 128 (get_or x.tables.now.first p 0 + k) i j (first_low p k h.0 h.1) h.2 h.3 in
+      let b = table_low n 128 x.few_words (omega arith) in
+      omega arith
 
 -- what the methods of a stored production answer
 module _ (ps : List Stored) (q : ℕ) (d : Stored) (l : q < length (productions ps)) where
@@ -54,6 +58,9 @@ module _ (ps : List Stored) (q : ℕ) (d : Stored) (l : q < length (productions 
 
   pub read_right : (v : List ℕ) → v ≡ (production (get_or ps q d)).right → v ≡ right_at (productions ps) q
   read_right v e = e ∙ ap (λ (p : Production). p.right) read_at
+
+  pub read_places : (v : ℕ) → v ≡ length (production (get_or ps q d)).right + 1 → v ≡ length (right_at (productions ps) q) + 1
+  read_places v e = e ∙ ap (λ (p : Production). length p.right + 1) read_at
 
   pub read_price : (v : ℕ) → v ≡ (production (get_or ps q d)).price → v ≡ (production_at (productions ps) q).price
   read_price v e = e ∙ ap (λ (p : Production). p.price) read_at

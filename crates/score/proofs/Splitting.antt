@@ -9,20 +9,20 @@ use Rattle.scales.specs.Scales.{Scale, SemiringLaws}
 use Rattle.score_theory.specs.Scores.{Way}
 use Rattle.score_theory.specs.Weights.{Choice, Split, sum_below}
 use Rattle.score_theory.proofs.Empties.{empty_before, empty_tree}
-use Rattle.score.specs.Inputs.{productions_in, words_in, grammar_in, Fit, Inside, place_in, WaitsIn, level_in, stage_in, Given}
+use Rattle.score.specs.Inputs.{productions_in, words_in, grammar_in, Inside, place_in, WaitsIn, level_in, stage_in, Given}
 use Rattle.score.specs.Filling.{held, whole_of, Terms, Right}
 use Rattle.score.specs.declared.input.Input.{Input}
 use Rattle.score.proofs.Levels.{level_small, level_same, level_falls}
 use Rattle.score.proofs.Products.{pick, pick_yes, pick_no, product_right}
 
-module _ {S : Type 0} (s : Scale S) (laws : SemiringLaws s) (x : Input) (fit : Fit x) (start : ℕ) (rs : List Rule) (W : ℕ → ℕ → ℕ → ℕ → S)
+module _ {S : Type 0} (s : Scale S) (laws : SemiringLaws s) (x : Input) (start : ℕ) (rs : List Rule) (W : ℕ → ℕ → ℕ → ℕ → S)
     (given : Given s x start rs W) where
   -- the tables' waiting places are the choices
   pub waits_choice :
       (p k q : ℕ) → p < length (productions_in x) → k ≤ length (right_at (productions_in x) p) → q < length (productions_in x) →
       WaitsIn x p k q → Choice (grammar_in x start rs) p k q
   waits_choice p k q kp lk kq w =
-      let e = ap (λ f. f + k) (fit.firsts p kp) in
+      let e = ap (λ f. f + k) (x.firsts p kp) in
       let h = (given.means.waits p k q kp lk kq).0 (subst (λ d. Waits x.tables.now q d) (sym e) w) in
       (kq, h.0, h.1, h.2)
 
@@ -30,7 +30,7 @@ module _ {S : Type 0} (s : Scale S) (laws : SemiringLaws s) (x : Input) (fit : F
       (p k q : ℕ) → p < length (productions_in x) → k ≤ length (right_at (productions_in x) p) →
       Choice (grammar_in x start rs) p k q → WaitsIn x p k q
   choice_waits p k q kp lk ch =
-      let e = ap (λ f. f + k) (fit.firsts p kp) in
+      let e = ap (λ f. f + k) (x.firsts p kp) in
       subst (λ d. Waits x.tables.now q d) e ((given.means.waits p k q kp lk ch.0).1 (ch.1, ch.2, ch.3))
 
   -- whether a production may stand there
@@ -56,7 +56,7 @@ module _ {S : Type 0} (s : Scale S) (laws : SemiringLaws s) (x : Input) (fit : F
     there m q l kq = (kq, omega arith, omega arith, lj)
 
     small : (q l : ℕ) → level_in x q l ≤ 17
-    small = level_small x fit start rs given.means
+    small = level_small x start rs given.means
 
     -- the entries of the two parts come before that of the whole, where both have ways
     first_before :
@@ -70,7 +70,7 @@ module _ {S : Type 0} (s : Scale S) (laws : SemiringLaws s) (x : Input) (fit : F
         (λ (e : m ≡ j).
         let null = empty_tree (grammar_in x start rs) (words_in x) q j h ch.0
         (subst (λ z. Way (grammar_in x start rs) (words_in x) q (size_of (grammar_in x start rs) q) z j h) e way) in
-        let same = level_same x fit start rs given.means p k _ kp ch.1 null in
+        let same = level_same x start rs given.means p k _ kp ch.1 null in
         omega arith)
         (λ (n : ¬ (m ≡ j)). omega (arith, n))
         (cases_eq m j)
@@ -83,13 +83,13 @@ module _ {S : Type 0} (s : Scale S) (laws : SemiringLaws s) (x : Input) (fit : F
         let a = small q (length (right_at (productions_in x) q)) in
         let short = (given.formed.sides q ch.0).1 in
         let kq = ch.0 in
-        let few = fit.few in
-        let fw = fit.few_words in
+        let few = x.few in
+        let fw = x.few_words in
         ⊎_elim
         (λ (e : i ≡ m).
         let empty = empty_before (grammar_in x start rs) (words_in x) p k i f
         (subst (λ z. Way (grammar_in x start rs) (words_in x) p k i z f) (sym e) way) in
-        let falls = level_falls x fit start rs given.means p k q kp ch.0 ch.1 ch.2 empty in
+        let falls = level_falls x start rs given.means p k q kp ch.0 ch.1 ch.2 empty in
         omega arith)
         (λ (n : ¬ (i ≡ m)). omega (arith, n))
         (cases_eq i m)

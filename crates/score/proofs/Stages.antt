@@ -3,7 +3,7 @@ use Rattle.std.proofs.Common.{◌≡◌, ℕ, ◌+◌, ◌-◌, ◌*◌, ◌<◌
 use Rattle.std.proofs.lemmas.Bool.{cases_eq, cases_lt, cases_order}
 use Rattle.grammar.specs.Grammar.{Rule, right_at}
 use Rattle.scales.specs.Scales.{Scale}
-use Rattle.score.specs.Inputs.{productions_in, words_in, Fit, Inside, level_in, stage, stage_in, Given}
+use Rattle.score.specs.Inputs.{productions_in, words_in, Inside, level_in, stage, stage_in, Given}
 use Rattle.score.specs.declared.input.Input.{Input}
 use Rattle.score.proofs.Indices.{row_unique}
 use Rattle.score.proofs.Levels.{level_small}
@@ -22,7 +22,7 @@ digits a i l p k b m n q r li ll lp lk lm ln lq lr e =
     let z = row_unique 64 a i b m li lm (omega arith) in
     (z.0, z.1, w.1, v.1, u.1)
 
-module _ {S : Type 0} (s : Scale S) (x : Input) (fit : Fit x) (start : ℕ) (rs : List Rule) (W : ℕ → ℕ → ℕ → ℕ → S) (given : Given s x start rs W) where
+module _ {S : Type 0} (s : Scale S) (x : Input) (start : ℕ) (rs : List Rule) (W : ℕ → ℕ → ℕ → ℕ → S) (given : Given s x start rs W) where
   -- the bounds of an entry's parts
   bounds :
       (p k i j : ℕ) → Inside x p k i j →
@@ -31,10 +31,10 @@ module _ {S : Type 0} (s : Scale S) (x : Input) (fit : Fit x) (start : ℕ) (rs 
       let kp = h.0 in
       let lk = h.1 in
       let li = h.2 in
-      let a = fit.few in
-      let b = fit.few_words in
+      let a = x.few in
+      let b = x.few_words in
       let c = (given.formed.sides p kp).1 in
-      (omega arith, level_small x fit start rs given.means p k, omega arith, omega arith, lk, h.3, kp)
+      (omega arith, level_small x start rs given.means p k, omega arith, omega arith, lk, h.3, kp)
 
   -- an entry at a stage has its parts
   pub entry_parts :
@@ -74,7 +74,7 @@ module _ {S : Type 0} (s : Scale S) (x : Input) (fit : Fit x) (start : ℕ) (rs 
   skip_dots q a m l lm ll lq p k i j h less =
       ⊎_elim (λ (t : stage_in x p k i j < stage a m l q (length (right_at (productions_in x) q) + 1)). t)
       (λ (t : stage a m l q (length (right_at (productions_in x) q) + 1) ≤ stage_in x p k i j).
-      let few = fit.few in
+      let few = x.few in
       let r = stage_in x p k i j - stage a m l q 0 in
       let u = entry_parts p k i j a m l q r h lm ll (omega arith) (omega arith) (omega arith) in
       let e : length (right_at (productions_in x) p) ≡ length (right_at (productions_in x) q) = ap (λ z. length (right_at (productions_in x) z)) u.3 in
@@ -88,7 +88,7 @@ module _ {S : Type 0} (s : Scale S) (x : Input) (fit : Fit x) (start : ℕ) (rs 
       stage_in x p k i j < stage a m l (length (productions_in x)) 0
   skip_productions a m l p k i j h less =
       let b = bounds p k i j h in
-      let few = fit.few in
+      let few = x.few in
       ⊎_elim (λ (t : stage_in x p k i j < stage a m l (length (productions_in x)) 0). t)
       (λ (t : stage a m l (length (productions_in x)) 0 ≤ stage_in x p k i j). absurd (omega arith))
       (cases_lt (stage_in x p k i j) (stage a m l (length (productions_in x)) 0))
@@ -108,11 +108,11 @@ module _ {S : Type 0} (s : Scale S) (x : Input) (fit : Fit x) (start : ℕ) (rs 
       stage_in x p k i j < stage a (length (words_in x) - a + 1) 0 0 0
   skip_origins a la p k i j h lij less =
       let b = bounds p k i j h in
-      let fw = fit.few_words in
+      let fw = x.few_words in
       ⊎_elim (λ (e : j - i ≡ a). omega arith)
       (⊎_elim (λ (t : j - i < a). omega arith) (λ (t : a < j - i). absurd (omega arith)))
       (cases_order (j - i) a)
 
   -- every entry comes at some stage
   pub all_stages : (p k i j : ℕ) → Inside x p k i j → stage_in x p k i j < stage (length (words_in x) + 1) 0 0 0 0
-  all_stages p k i j h = let b = bounds p k i j h in let fw = fit.few_words in omega arith
+  all_stages p k i j h = let b = bounds p k i j h in let fw = x.few_words in omega arith

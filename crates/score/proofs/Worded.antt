@@ -2,12 +2,12 @@
 use Rattle.std.proofs.Common.{◌≡◌, ℕ, suc, ◌-◌, ◌<◌, ◌≤◌, List, length, get_or, sym, ap, ◌∙◌, subst, arith}
 use Rattle.grammar.specs.Grammar.{Rule, Kind, At, right_at}
 use Rattle.scales.specs.Scales.{Scale}
-use Rattle.score.specs.Inputs.{productions_in, words_in, Fit, Inside, Given}
+use Rattle.score.specs.Inputs.{productions_in, words_in, Inside, Given}
 use Rattle.score.specs.Filling.{held, Makes}
 use Rattle.score.specs.declared.input.Input.{Input}
 use Rattle.score.proofs.Levels.{level_small}
 
-module _ {S : Type 0} (s : Scale S) (x : Input) (fit : Fit x) (table : List S) where
+module _ {S : Type 0} (s : Scale S) (x : Input) (table : List S) where
   -- a dot is one more than the position before it
   pub makes_at : (p k l i j : ℕ) (v : S) → k ≡ l → Makes s x table p k i j v → Makes s x table p l i j v
   makes_at p k l i j v e h = subst (λ z. Makes s x table p z i j v) e h
@@ -38,7 +38,7 @@ module _ {S : Type 0} (s : Scale S) (x : Input) (fit : Fit x) (table : List S) w
         Makes s x table p (suc k) i j v
     word i j v l lj e same start rs W given right =
         let back : suc (j - 1) ≡ j = omega arith in
-        let low = level_small x fit start rs given.means p k in
+        let low = level_small x start rs given.means p k in
         let inner : Inside x p k i (j - 1) = (kp, omega (arith, at.0), omega arith, omega arith) in
         e
         ∙ right.done p k i (j - 1) inner (omega arith) (omega arith)

@@ -3,6 +3,7 @@ use Rattle.std.specs.Prelude.{◌≡◌, ℕ, ◌<◌, ◌≤◌, ◌⊎◌, Lis
 use Rattle.grammar.specs.Grammar.{Rule, production_at, left_at, right_at}
 use Rattle.scales.specs.Scales.{Scale}
 use Rattle.score.specs.declared.input.Input.{Input}
+use Rattle.score.specs.declared.sums.Sums.{Sums}
 use Rattle.score.specs.Inputs.{productions_in, words_in, Inside, index_in, entries_in, WaitsIn, stage_in, Given}
 
 -- what the table holds for the dot k of the production p, the origin i and the end j
@@ -35,6 +36,10 @@ Makes {S} s x table p k i j v =
     Given s x start rs W →
     Right s x W table (stage_in x p k i j) →
     v ≡ W p k i j
+
+-- what the sums are taken over and the slice that they lie in stay
+abbrev pub Kept : {S : Type 0} → Sums S → Sums S → Type 0
+Kept before after = (after.input ≡ before.input) × (after.table.ghost_name ≡ before.table.ghost_name)
 
 -- a table that is right before a stage becomes right before another one, and nothing past the entries changes
 pub record Fills {S : Type 0} (s : Scale S) (x : Input) (before after : List S) (from to : ℕ) : Type 0 where

@@ -1,16 +1,16 @@
 -- What the sums are taken over: a grammar's tables and productions, and the words. Assumes nothing.
-use Rattle.std.specs.Prelude.{◌≡◌, ℕ, ◌+◌, ◌-◌, ◌*◌, ◌<◌, ◌≤◌, cond, List, length, nat_lt, slice_index}
+use Rattle.std.specs.Prelude.{ℕ, ◌+◌, ◌-◌, ◌*◌, ◌<◌, ◌≤◌, cond, List, length, nat_lt, slice_index}
 use Rattle.grammar.specs.Grammar.{Production, Rule, Grammar, left_at, right_at, places}
 use Rattle.grammar.specs.Model.{productions as productions_of}
 use Rattle.grammar.specs.Sound.{WellFormed}
-use Rattle.derivations.specs.Ranges.{Lefts}
 use Rattle.tables.specs.Meaning.{Means, Waits}
-use Rattle.tables.specs.Places.{first_place, Firsts}
+use Rattle.tables.specs.Places.{first_place}
 use Rattle.scales.specs.Scales.{Scale}
 use Rattle.score_theory.specs.Weights.{Weights}
 use Rattle.score.specs.Filled.{entry_at}
-use Rattle.score.specs.Tails.{Tails}
 use Rattle.score.specs.declared.input.Input.{Input}
+use Rattle.score.specs.declared.entry.Entry.{Entry}
+use Rattle.score.specs.declared.entry.Span.{Span}
 
 -- the productions
 abbrev pub productions_in : Input → List Production
@@ -24,20 +24,14 @@ words_in x = x.words.now
 abbrev pub grammar_in : Input → ℕ → List Rule → Grammar
 grammar_in x start rs = record { start = start; productions = productions_in x; rules = rs }
 
--- the sizes are in range, and the tables place the productions as they stand
-pub record Fit (x : Input) : Type 0 where
-  pub few_words : length (words_in x) ≤ 48
-  pub few : length (productions_in x) ≤ 32
-  pub small : places (productions_in x) ≤ 128
-  pub lefts : Lefts (productions_in x)
-  pub firsts : Firsts (productions_in x) x.tables.now.first
-  pub whole : length x.tails ≡ 32
-  pub tails : Tails (productions_in x) x.tails
-
 -- the dot k of the production p, the origin i and the end j have an entry
 abbrev pub Inside : Input → ℕ → ℕ → ℕ → ℕ → Type 0
 Inside x p k i j =
     (p < length (productions_in x)) × (k ≤ length (right_at (productions_in x) p)) × (i ≤ length (words_in x)) × (j ≤ length (words_in x))
+
+-- the entry's production, dot and span have one
+abbrev pub HasEntry : Input → Entry → Type 0
+HasEntry x e = Inside x e.production e.dot e.span.start e.span.end
 
 -- the place of the dot k of the production p
 abbrev pub place_in : Input → ℕ → ℕ → ℕ
@@ -62,6 +56,10 @@ level_in x p k = cond (nat_lt k (slice_index x.tails p)) 17 (slice_index x.table
 -- the entries come by the length of their spans, then by origin, level, production and dot
 abbrev pub stage : ℕ → ℕ → ℕ → ℕ → ℕ → ℕ
 stage len i level p k = len * 1048576 + i * 16384 + level * 512 + p * 8 + k
+
+-- the same for a span
+abbrev pub stage_at : Span → ℕ → ℕ → ℕ → ℕ
+stage_at span = stage (span.end - span.start) span.start
 
 -- the stage at which the entry comes
 abbrev pub stage_in : Input → ℕ → ℕ → ℕ → ℕ → ℕ

@@ -1,52 +1,28 @@
-ghost use Rattle.std.specs.Prelude.{◌≡◌, ◌<◌, ◌≤◌, true, false, length};
-ghost use Rattle.grammar.specs.Grammar.{right_at};
-ghost use Rattle.score.specs.Inputs.{productions_in, Fit, Inside, index_in, WaitsIn, level_in};
+ghost use Rattle.std.specs.Prelude.{◌≡◌, ◌≤◌, length};
+ghost use Rattle.grammar.specs.Grammar.{places};
+ghost use Rattle.grammar.specs.Model.{productions as productions_of};
+ghost use Rattle.derivations.specs.Ranges.{Lefts};
+ghost use Rattle.tables.specs.Places.{Firsts};
+ghost use Rattle.score.specs.Tails.{Tails};
 
 use grammar::production::Production;
 use tables::tables::Tables;
 
-// What the sums are taken over, with the position in each right side from which on every symbol may be empty.
+mod methods;
+
+// What the sums are taken over, with the position in each right side from which on every symbol may be empty. The sizes are
+// in range, and the tables place the productions as they stand.
 #[derive(Clone, Copy)]
-pub(crate) struct Input<'t, 'p, 'w> {
-    pub(crate) tables: &'t Tables,
-    pub(crate) productions: &'p [Production],
-    pub(crate) words: &'w [u8],
+pub(crate) struct Input<'a> {
+    pub(crate) tables: &'a Tables,
+    pub(crate) productions: &'a [Production],
+    pub(crate) words: &'a [u8],
     pub(crate) tails: [u8; 32],
-}
-
-// The index of the entry of the dot k of the production p, the origin i and the end j.
-pub(crate) fn index(input: &Input, p: usize, k: usize, i: usize, j: usize) -> usize
-    requires fit { Fit input.now }
-    requires inside { Inside input.now p k i j }
-    ensures { result ≡ index_in input.now p k i j }
-{
-    let wide = input.words.len() + 1;
-    let place = input.tables.first[p] as usize + k;
-    place * (wide * wide) + i * wide + j
-}
-
-// Whether the production q may stand at position k of the production p.
-pub(crate) fn waits(input: &Input, p: usize, k: usize, q: usize) -> bool
-    requires fit { Fit input.now }
-    requires parent { p < length (productions_in input.now) }
-    requires position { k ≤ length (right_at (productions_in input.now) p) }
-    requires child { q < length (productions_in input.now) }
-    ensures yes { result ≡ true → WaitsIn input.now p k q }
-    ensures no { result ≡ false → ¬ WaitsIn input.now p k q }
-{
-    let place = input.tables.first[p] as usize + k;
-    (input.tables.waits[2 * q + place / 64] >> (place % 64)) & 1 == 1
-}
-
-// The level of the dot k of the production p.
-pub(crate) fn level(input: &Input, p: usize, k: usize) -> u8
-    requires fit { Fit input.now }
-    requires parent { p < length (productions_in input.now) }
-    ensures { result ≡ level_in input.now p k }
-{
-    if k < input.tails[p] as usize {
-        17
-    } else {
-        input.tables.ranks[input.productions[p].left() as usize]
-    }
+    ghost few_words: { length words.now ≤ 48 },
+    ghost few: { length (productions_of productions.now) ≤ 32 },
+    ghost small: { places (productions_of productions.now) ≤ 128 },
+    ghost lefts: { Lefts (productions_of productions.now) },
+    ghost firsts: { Firsts (productions_of productions.now) tables.now.first },
+    ghost whole: { length tails ≡ 32 },
+    ghost ends: { ∥ Tails (productions_of productions.now) tails ∥₁ },
 }

@@ -15,19 +15,18 @@ ghost use Rattle.tables.specs.Places.{Firsts};
 ghost use Rattle.score_theory.specs.Scores.{Score};
 ghost use Rattle.score.specs.Filled.{Filled};
 
-use filling::fill;
 use grammar::production::Production;
 use input::Input;
 use scales::Semiring;
-use sums::roots;
+use sums::Sums;
 use tables::tables::Tables;
 use tails::tails;
 
-mod filling;
+mod entry;
 mod input;
-mod making;
 mod sums;
 mod tails;
+mod total;
 
 // The score of the words. The table is left with the sums over all ways.
 pub fn score<S: Semiring>(
@@ -56,6 +55,10 @@ pub fn score<S: Semiring>(
         words,
         tails: tails(productions),
     };
-    fill(&input, table);
-    roots(&input, table, start)
+    let mut sums = Sums {
+        input: &input,
+        table,
+    };
+    sums.fill();
+    sums.roots(start)
 }

@@ -13,13 +13,13 @@ fn tail(right: &[u8], set: u32) -> u8
     requires short { length right.now ≤ 6 }
     ensures { Tail (Has set) right.now result }
 {
-    let mut tail = 0;
-    for (k, symbol) in right.iter().enumerate() {
-        if !contains(set, *symbol as usize) {
-            tail = k + 1;
-        }
+    match right
+        .iter()
+        .rposition(|symbol| !contains(set, usize::from(*symbol)))
+    {
+        Some(last) => last as u8 + 1,
+        None => 0,
     }
-    tail as u8
 }
 
 // For each production the least position from which on every symbol may be empty.

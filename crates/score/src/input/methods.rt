@@ -1,0 +1,48 @@
+ghost use Rattle.std.specs.Prelude.{◌≡◌, ◌<◌, ◌≤◌, true, false, length};
+ghost use Rattle.score.specs.Inputs.{productions_in, HasEntry, place_in, index_in, WaitsIn, level_in};
+
+use super::Input;
+use crate::entry::Entry;
+use bitset::cells::is_marked;
+
+impl<'a> Input<'a> {
+    // The place of the entry.
+    fn place(&self, entry: Entry) -> usize
+        requires inside { HasEntry self.now entry }
+        ensures is { result ≡ place_in self.now entry.production entry.dot }
+        ensures low { result < 128 }
+    {
+        self.tables.first[entry.production] as usize + entry.dot
+    }
+
+    // The index of the entry in the table.
+    pub(crate) fn index(&self, entry: Entry) -> usize
+        requires inside { HasEntry self.now entry }
+        ensures { result ≡ index_in self.now entry.production entry.dot entry.span.start entry.span.end }
+    {
+        let wide = self.words.len() + 1;
+        self.place(entry) * (wide * wide) + entry.span.start * wide + entry.span.end
+    }
+
+    // Whether the production q may stand behind the dot of the entry.
+    pub(crate) fn waits(&self, entry: Entry, q: usize) -> bool
+        requires inside { HasEntry self.now entry }
+        requires child { q < length (productions_in self.now) }
+        ensures yes { result ≡ true → WaitsIn self.now entry.production entry.dot q }
+        ensures no { result ≡ false → ¬ WaitsIn self.now entry.production entry.dot q }
+    {
+        is_marked(&self.tables.waits, q, self.place(entry))
+    }
+
+    // The level of the entry.
+    pub(crate) fn level(&self, entry: Entry) -> u8
+        requires inside { HasEntry self.now entry }
+        ensures { result ≡ level_in self.now entry.production entry.dot }
+    {
+        if entry.dot < self.tails[entry.production] as usize {
+            17
+        } else {
+            self.tables.ranks[self.productions[entry.production].left() as usize]
+        }
+    }
+}
