@@ -1,6 +1,6 @@
 -- A draft with one production or one rule more. Assumes nothing.
 use Rattle.std.proofs.Common.{◌≡◌, ℕ, ◌+◌, ◌-◌, ◌<◌, ◌≤◌, ◌≢◌, List, [], ◌∷◌, ◌++◌, length, get_or, take, set, sym, ap, ◌∙◌, subst, inl, arith, below_more}
-use Rattle.std.proofs.lemmas.List.{get_or-set_same, get_or-set_other, get_or-take, length-set, length-take-le}
+use Rattle.std.proofs.lemmas.List.{get_or-set_same, get_or-set_other, get_or-take, length-set, length-take-le, take-set}
 use Rattle.grammar.specs.declared.production.Production.{Production as Stored}
 use Rattle.grammar.specs.declared.rule.Rule.{Rule as Numbered}
 use Rattle.grammar.specs.Grammar.{Production, Rule, Nonterminal, with_production, with_rule}
@@ -49,6 +49,13 @@ module _ (d : Draft) (p : Stored) (room : ¬ NoRoom (model d) (production p)) wh
       let l = free_place in
       ap (λ (xs : List Production). record { start = d.start; productions = xs; rules = rules (take d.ruled d.rules) }) (pushed production d.productions d.count p (omega arith))
 
+  -- behind the productions that count one more changes nothing
+  pub unchanged : grammar d.start (set d.productions d.count p) d.count d.rules d.ruled ≡ model d
+  unchanged = ap (λ (ps : List Stored). record { start = d.start; productions = productions ps; rules = rules (take d.ruled d.rules) }) (take-set d.productions d.count p)
+
+  pub still_formed : WellFormed (grammar d.start (set d.productions d.count p) d.count d.rules d.ruled)
+  still_formed = subst WellFormed (sym unchanged) (well_formed d)
+
   pub lefts : (¬ OutOfRange (production p)) → Lefts (productions (take (d.count + 1 - 0) (set d.productions d.count p)))
   lefts range =
       let low : ¬ (15 < (production p).left) = λ h. range (inl h) in
@@ -78,11 +85,21 @@ module _ (d : Draft) (x : Numbered) (up : Names (length (model d).productions) x
       let l = free_rule in
       ap (λ (xs : List Rule). record { start = d.start; productions = productions (take d.count d.productions); rules = xs }) (pushed rule d.rules d.ruled x (omega arith))
 
+  -- behind the rules that count one more changes nothing
+  pub unchanged_rules : grammar d.start d.productions d.count (set d.rules d.ruled x) d.ruled ≡ model d
+  unchanged_rules = ap (λ (rs : List Numbered). record { start = d.start; productions = productions (take d.count d.productions); rules = rules rs }) (take-set d.rules d.ruled x)
+
+  pub rules_still_formed : WellFormed (grammar d.start d.productions d.count (set d.rules d.ruled x) d.ruled)
+  rules_still_formed = subst WellFormed (sym unchanged_rules) (well_formed d)
+
   pub numbers_kept : Numbers (set d.rules d.ruled x) (d.ruled + 1) d.count
   numbers_kept =
       let l = free_rule in
       let n = counted production d.productions d.count (omega arith) in
       numbers_more d.rules d.ruled d.count x (omega arith) d.numbers (up.0, omega (arith, n, up.1)) (low.0, omega (arith, n, low.1))
+
+  pub numbers_still : Numbers (set d.rules d.ruled x) d.ruled d.count
+  numbers_still k e h = let l = free_rule in numbers_kept k e (omega arith)
 
   pub between : NumbersBetween (take (d.ruled + 1 - 0) (set d.rules d.ruled x))
   between k e h =
