@@ -30,19 +30,14 @@ well_formed d =
       ordered = d.ordered;
     }
 
-no_less : (n : ℕ) → n - 0 ≡ n
-no_less n = omega arith
-
 module _ (d : Draft) (p : Stored) (room : ¬ NoRoom (model d) (production p)) where
   pub free_place : d.count < 32
   free_place = let n : ¬ (32 ≤ length (model d).productions) = λ h. room (inl h) in omega (arith, counted production d.productions d.count (omega arith))
 
   -- the productions with the new one, as a part of the array
-  pub longer : productions (take (d.count + 1 - 0) (set d.productions d.count p)) ≡ (model d).productions ++ production p ∷ []
+  pub longer : productions (take (d.count + 1) (set d.productions d.count p)) ≡ (model d).productions ++ production p ∷ []
   longer =
-      let l = free_place in
-      ap (λ n. productions (take n (set d.productions d.count p))) (no_less (d.count + 1))
-      ∙ pushed production d.productions d.count p (omega arith)
+      let l = free_place in pushed production d.productions d.count p (omega arith)
 
   pub grown : grammar d.start (set d.productions d.count p) (d.count + 1) d.rules d.ruled ≡ with_production (model d) (production p)
   grown =
@@ -56,7 +51,7 @@ module _ (d : Draft) (p : Stored) (room : ¬ NoRoom (model d) (production p)) wh
   pub still_formed : WellFormed (grammar d.start (set d.productions d.count p) d.count d.rules d.ruled)
   still_formed = subst WellFormed (sym unchanged) (well_formed d)
 
-  pub lefts : (¬ OutOfRange (production p)) → Lefts (productions (take (d.count + 1 - 0) (set d.productions d.count p)))
+  pub lefts : (¬ OutOfRange (production p)) → Lefts (productions (take (d.count + 1) (set d.productions d.count p)))
   lefts range =
       let low : ¬ (15 < (production p).left) = λ h. range (inl h) in
       subst Lefts (sym longer) (each_more (model d).productions (production p) (λ (q : Production). Nonterminal q.left) (λ k h. (d.sides k h).0) (omega arith))
@@ -75,10 +70,9 @@ module _ (d : Draft) (x : Numbered) (up : Names (length (model d).productions) x
   pub free_rule : d.ruled < 64
   free_rule = omega (arith, counted rule d.rules d.ruled (omega arith))
 
-  pub longer_rules : rules (take (d.ruled + 1 - 0) (set d.rules d.ruled x)) ≡ (model d).rules ++ rule x ∷ []
+  pub longer_rules : rules (take (d.ruled + 1) (set d.rules d.ruled x)) ≡ (model d).rules ++ rule x ∷ []
   longer_rules =
-      let l = free_rule in
-      ap (λ n. rules (take n (set d.rules d.ruled x))) (no_less (d.ruled + 1)) ∙ pushed rule d.rules d.ruled x (omega arith)
+      let l = free_rule in pushed rule d.rules d.ruled x (omega arith)
 
   pub grown_rules : grammar d.start d.productions d.count (set d.rules d.ruled x) (d.ruled + 1) ≡ with_rule (model d) (rule x)
   grown_rules =
@@ -101,9 +95,9 @@ module _ (d : Draft) (x : Numbered) (up : Names (length (model d).productions) x
   pub numbers_still : Numbers (set d.rules d.ruled x) d.ruled d.count
   numbers_still k e h = let l = free_rule in numbers_kept k e (omega arith)
 
-  pub between : NumbersBetween (take (d.ruled + 1 - 0) (set d.rules d.ruled x))
+  pub between : NumbersBetween (take (d.ruled + 1) (set d.rules d.ruled x))
   between k e h =
       let l = free_rule in
-      let b : k < d.ruled + 1 = omega (arith, length-take-le (d.ruled + 1 - 0) (set d.rules d.ruled x) (omega (arith, length-set d.rules d.ruled x)), h) in
+      let b : k < d.ruled + 1 = omega (arith, length-take-le (d.ruled + 1) (set d.rules d.ruled x) (omega (arith, length-set d.rules d.ruled x)), h) in
       let m = numbers_kept k e b in
-      subst Between (sym (get_or-take (d.ruled + 1 - 0) (set d.rules d.ruled x) k e (omega arith))) (m.0, omega (arith, m.1), m.2, omega (arith, m.3))
+      subst Between (sym (get_or-take (d.ruled + 1) (set d.rules d.ruled x) k e (omega arith))) (m.0, omega (arith, m.1), m.2, omega (arith, m.3))

@@ -106,10 +106,7 @@ impl Draft {
         ensures yes { result ≡ true → ¬ NoRoom (model self.now) (production p.now) }
         ensures no { result ≡ false → NoRoom (model self.now) (production p.now) }
     {
-        if self.count >= 32 {
-            return false;
-        }
-        self.place_count() + p.right().len() + 1 <= 128
+        self.count < 32 && self.place_count() + p.right().len() + 1 <= 128
     }
 
     // Adds a production that is in range, has room and repeats none, unless a nonterminal would then lead to itself.
@@ -121,7 +118,7 @@ impl Draft {
     {
         let at = self.count;
         self.productions[at] = p;
-        if leads_to_itself(&self.productions[0..at + 1]) {
+        if leads_to_itself(&self.productions[..=at]) {
             return Err(DraftRefusal::LeadsToItself);
         }
         self.count = at + 1;
@@ -156,7 +153,7 @@ impl Draft {
     {
         let at = self.ruled;
         self.rules[at] = rule;
-        if above_itself(&self.rules[0..at + 1]) {
+        if above_itself(&self.rules[..=at]) {
             return Err(DraftRefusal::AboveItself);
         }
         self.ruled = at + 1;

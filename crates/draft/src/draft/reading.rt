@@ -44,7 +44,7 @@ impl Draft {
     pub fn productions(&self) -> &[Production]
         ensures { productions result.now ≡ (model self.now).productions }
     {
-        &self.productions[0..self.count]
+        &self.productions[..self.count]
     }
 
     // The rules in the order of acceptance. Each has the numbers of two productions, which count from 1.
@@ -52,7 +52,7 @@ impl Draft {
         ensures rules { rules result.now ≡ (model self.now).rules }
         ensures numbers { Numbers result.now (length result.now) (length (model self.now).productions) }
     {
-        &self.rules[0..self.ruled]
+        &self.rules[..self.ruled]
     }
 
     // The rule of a number, which counts from 1 in the order of acceptance; none where no rule has it.
