@@ -2,6 +2,8 @@ ghost use Rattle.std.specs.Prelude.{◌≡◌, ◌≤◌, length};
 
 mod methods;
 
+pub use methods::place_count;
+
 // A production: its left nonterminal, its right side of at most six symbols, and its price.
 #[derive(Clone, Copy)]
 pub struct Production {

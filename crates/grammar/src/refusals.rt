@@ -5,43 +5,43 @@ ghost use Rattle.grammar.specs.declared.refusals.Refusal.TheVariants.{Draft, Rea
 // Why a draft refuses a start, a production or a rule.
 #[derive(Clone, Copy, PartialEq, Eq, Debug)]
 pub enum DraftRefusal {
-    Symbol,
-    LongRight,
-    Full,
-    Repeated,
-    LeadsToItself,
-    NoProduction,
-    RulesFull,
-    AboveItself,
+    Symbol = 1,
+    LongRight = 2,
+    Full = 3,
+    Repeated = 4,
+    LeadsToItself = 5,
+    NoProduction = 6,
+    RulesFull = 7,
+    AboveItself = 8,
 }
 
 // Why a reading refuses a call.
 #[derive(Clone, Copy, PartialEq, Eq, Debug)]
 pub enum ReadingRefusal {
-    LineFull,
-    NoKind,
-    NothingBegins,
-    NoWord,
-    NoSentence,
-    ShortChart,
-    ShortListing,
-    ShortTable,
+    LineFull = 9,
+    NoKind = 10,
+    NothingBegins = 11,
+    NoWord = 12,
+    NoSentence = 13,
+    ShortChart = 14,
+    ShortListing = 15,
+    ShortTable = 16,
 }
 
 // Why a grammar file is refused, or can't be written.
 #[derive(Clone, Copy, PartialEq, Eq, Debug)]
 pub enum FileRefusal {
-    Mark,
-    Form,
-    Declared,
-    Undeclared,
-    ShortText,
+    Mark = 17,
+    Form = 18,
+    Declared = 19,
+    Undeclared = 20,
+    ShortText = 22,
 }
 
 // Why a line of text is refused.
 #[derive(Clone, Copy, PartialEq, Eq, Debug)]
 pub enum LineRefusal {
-    UnknownWord,
+    UnknownWord = 21,
 }
 
 // A refusal with the layer that gives it.
@@ -58,16 +58,7 @@ impl DraftRefusal {
     pub fn number(self) -> u8
         ensures { result ≡ number (Draft self) }
     {
-        match self {
-            DraftRefusal::Symbol => 1,
-            DraftRefusal::LongRight => 2,
-            DraftRefusal::Full => 3,
-            DraftRefusal::Repeated => 4,
-            DraftRefusal::LeadsToItself => 5,
-            DraftRefusal::NoProduction => 6,
-            DraftRefusal::RulesFull => 7,
-            DraftRefusal::AboveItself => 8,
-        }
+        self as u8
     }
 }
 
@@ -76,16 +67,7 @@ impl ReadingRefusal {
     pub fn number(self) -> u8
         ensures { result ≡ number (Reading self) }
     {
-        match self {
-            ReadingRefusal::LineFull => 9,
-            ReadingRefusal::NoKind => 10,
-            ReadingRefusal::NothingBegins => 11,
-            ReadingRefusal::NoWord => 12,
-            ReadingRefusal::NoSentence => 13,
-            ReadingRefusal::ShortChart => 14,
-            ReadingRefusal::ShortListing => 15,
-            ReadingRefusal::ShortTable => 16,
-        }
+        self as u8
     }
 }
 
@@ -94,13 +76,7 @@ impl FileRefusal {
     pub fn number(self) -> u8
         ensures { result ≡ number (File self) }
     {
-        match self {
-            FileRefusal::Mark => 17,
-            FileRefusal::Form => 18,
-            FileRefusal::Declared => 19,
-            FileRefusal::Undeclared => 20,
-            FileRefusal::ShortText => 22,
-        }
+        self as u8
     }
 }
 
@@ -109,9 +85,7 @@ impl LineRefusal {
     pub fn number(self) -> u8
         ensures { result ≡ number (Line self) }
     {
-        match self {
-            LineRefusal::UnknownWord => 21,
-        }
+        self as u8
     }
 }
 
@@ -126,5 +100,37 @@ impl Refusal {
             Refusal::File(refusal) => refusal.number(),
             Refusal::Line(refusal) => refusal.number(),
         }
+    }
+}
+
+impl From<DraftRefusal> for Refusal {
+    ghost from_gives = { λ cause refusal. refusal ≡ Draft cause };
+
+    fn from(cause: DraftRefusal) -> Refusal {
+        Refusal::Draft(cause)
+    }
+}
+
+impl From<ReadingRefusal> for Refusal {
+    ghost from_gives = { λ cause refusal. refusal ≡ Reading cause };
+
+    fn from(cause: ReadingRefusal) -> Refusal {
+        Refusal::Reading(cause)
+    }
+}
+
+impl From<FileRefusal> for Refusal {
+    ghost from_gives = { λ cause refusal. refusal ≡ File cause };
+
+    fn from(cause: FileRefusal) -> Refusal {
+        Refusal::File(cause)
+    }
+}
+
+impl From<LineRefusal> for Refusal {
+    ghost from_gives = { λ cause refusal. refusal ≡ Line cause };
+
+    fn from(cause: LineRefusal) -> Refusal {
+        Refusal::Line(cause)
     }
 }

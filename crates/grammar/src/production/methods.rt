@@ -1,5 +1,6 @@
-ghost use Rattle.std.specs.Prelude.{◌≡◌, ◌<◌, [], length, MatchOption};
-ghost use Rattle.grammar.specs.Model.{production};
+ghost use Rattle.std.specs.Prelude.{◌≡◌, ◌+◌, ◌<◌, ◌≤◌, [], length, MatchOption};
+ghost use Rattle.grammar.specs.Grammar.{places};
+ghost use Rattle.grammar.specs.Model.{production, productions as model};
 
 use super::Production;
 
@@ -25,10 +26,8 @@ impl Production {
         if len > 6 {
             return None;
         }
-        let mut symbols = [0u8; 6];
-        for (i, symbol) in right.iter().enumerate() {
-            symbols[i] = *symbol;
-        }
+        let mut symbols = [0; 6];
+        symbols[..len].copy_from_slice(right);
         Some(Production {
             left,
             right: symbols,
@@ -57,4 +56,18 @@ impl Production {
     {
         self.price
     }
+    // How many places for the dot the right side has: one more than symbols.
+    pub fn places(&self) -> usize
+        ensures value { result ≡ length (production self.now).right + 1 }
+        ensures few { result ≤ 7 }
+    {
+        self.len + 1
+    }
+}
+
+// How many places the productions have.
+pub fn place_count(productions: &[Production]) -> usize
+    ensures { result ≡ places (model productions.now) }
+{
+    productions.iter().map(|p| p.places()).sum()
 }
