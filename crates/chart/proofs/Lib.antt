@@ -7,3 +7,4 @@ pub mod Places
 pub mod Steady
 pub mod Columns
 pub mod Words
+pub mod Fronts

@@ -6,13 +6,13 @@ ghost use Rattle.chart.specs.Chart.{Marked};
 ghost use Rattle.chart.specs.Cells.{Seen};
 ghost use Rattle.chart.specs.Columns.{Moves, AllMoved, ProductionDone, OriginDone, Completed, Begun, Predicted, Closes};
 
+use crate::Cells;
 use crate::items::{Places, add, advance, gather, has, meets};
 use bitset::contains;
 use tables::tables::Tables;
 
 // Completes the production q, which has a complete item from s to j: the items that wait for it at s move on to j.
-fn complete(t: &Tables, cells: &mut [u64], s: usize, j: usize, q: usize) -> bool
-    requires long { 4802 ≤ length cells.old }
+fn complete(t: &Tables, cells: &mut Cells, s: usize, j: usize, q: usize) -> bool
     requires inside { (j ≤ 48) × ((s ≤ j) × (q < t.now.count)) }
     requires whole { Marked cells.old s j (last_of t.now q) }
     ensures moved { Moves t.now j cells.old cells.new result }
@@ -26,8 +26,7 @@ fn complete(t: &Tables, cells: &mut [u64], s: usize, j: usize, q: usize) -> bool
 }
 
 // Completes the production q, if it has a complete item from s to j.
-fn complete_if_whole(t: &Tables, cells: &mut [u64], s: usize, j: usize, q: usize) -> bool
-    requires long { 4802 ≤ length cells.old }
+fn complete_if_whole(t: &Tables, cells: &mut Cells, s: usize, j: usize, q: usize) -> bool
     requires inside { (j ≤ 48) × ((s ≤ j) × (q < t.now.count)) }
     ensures moved { Moves t.now j cells.old cells.new result }
     ensures done { result ≡ false → ProductionDone t.now s j cells.new q }
@@ -40,8 +39,7 @@ fn complete_if_whole(t: &Tables, cells: &mut [u64], s: usize, j: usize, q: usize
 }
 
 // Completes the productions that have a complete item from s to j.
-fn complete_origin(t: &Tables, cells: &mut [u64], s: usize, j: usize) -> bool
-    requires long { 4802 ≤ length cells.old }
+fn complete_origin(t: &Tables, cells: &mut Cells, s: usize, j: usize) -> bool
     requires inside { (j ≤ 48) × (s ≤ j) }
     ensures moved { Moves t.now j cells.old cells.new result }
     ensures done { result ≡ false → OriginDone t.now j cells.new s }
@@ -58,8 +56,7 @@ fn complete_origin(t: &Tables, cells: &mut [u64], s: usize, j: usize) -> bool
 }
 
 // Completes every production that has a complete item in column j, the latest origins first.
-fn complete_column(t: &Tables, cells: &mut [u64], j: usize) -> bool
-    requires long { 4802 ≤ length cells.old }
+fn complete_column(t: &Tables, cells: &mut Cells, j: usize) -> bool
     requires inside { j ≤ 48 }
     ensures moved { Moves t.now j cells.old cells.new result }
     ensures done { result ≡ false → Completed t.now j cells.new }
@@ -72,8 +69,7 @@ fn complete_column(t: &Tables, cells: &mut [u64], j: usize) -> bool
 }
 
 // Predicts the production q at j, if it is live and one of the places waits for it.
-fn predict(t: &Tables, cells: &mut [u64], j: usize, places: Places, q: usize) -> bool
-    requires long { 4802 ≤ length cells.old }
+fn predict(t: &Tables, cells: &mut Cells, j: usize, places: Places, q: usize) -> bool
     requires inside { (j ≤ 48) × (q < t.now.count) }
     requires seen { Seen cells.old j (j + 1) places.low places.high }
     ensures moved { Moves t.now j cells.old cells.new result }
@@ -89,8 +85,7 @@ fn predict(t: &Tables, cells: &mut [u64], j: usize, places: Places, q: usize) ->
 }
 
 // Predicts every live production that an item of column j waits for.
-fn predict_column(t: &Tables, cells: &mut [u64], j: usize) -> bool
-    requires long { 4802 ≤ length cells.old }
+fn predict_column(t: &Tables, cells: &mut Cells, j: usize) -> bool
     requires inside { j ≤ 48 }
     ensures moved { Moves t.now j cells.old cells.new result }
     ensures done { result ≡ false → Predicted t.now j cells.new }
@@ -104,8 +99,7 @@ fn predict_column(t: &Tables, cells: &mut [u64], j: usize) -> bool
 }
 
 // Completes and predicts in column j until nothing changes.
-pub(crate) fn close_column(t: &Tables, cells: &mut [u64], j: usize)
-    requires long { 4802 ≤ length cells.old }
+pub(crate) fn close_column(t: &Tables, cells: &mut Cells, j: usize)
     requires inside { j ≤ 48 }
     ensures moved { (r : Bool) × Moves t.now j cells.old cells.new r }
     ensures closed { Closes t.now j cells.old cells.new }

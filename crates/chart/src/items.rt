@@ -4,6 +4,8 @@ ghost use Rattle.std.specs.Prelude.{◌≡◌, ◌+◌, ◌*◌, ◌<◌, ◌≤
 ghost use Rattle.chart.specs.Chart.{cell_of, Marked};
 ghost use Rattle.chart.specs.Cells.{Grows, Added, Advanced, Cleared, Gathered, Meets};
 
+use crate::Cells;
+
 // A set of places: the place d is bit d of `low`, or bit d - 64 of `high`.
 #[derive(Clone, Copy)]
 pub(crate) struct Places {
@@ -12,8 +14,7 @@ pub(crate) struct Places {
 }
 
 // Whether the item with origin i, end j and the place d is in the chart.
-pub fn has(cells: &[u64], i: usize, j: usize, d: usize) -> bool
-    requires long { 4802 ≤ length cells.now }
+pub fn has(cells: &Cells, i: usize, j: usize, d: usize) -> bool
     requires inside { (i ≤ 48) × ((j ≤ 48) × (d < 128)) }
     ensures yes { result ≡ true → Marked cells.now i j d }
     ensures no { result ≡ false → ¬ Marked cells.now i j d }
@@ -22,7 +23,7 @@ pub fn has(cells: &[u64], i: usize, j: usize, d: usize) -> bool
 }
 
 // Adds bits to the cell k and tells whether that changed it.
-fn join(cells: &mut [u64], k: usize, bits: u64) -> bool
+fn join(cells: &mut Cells, k: usize, bits: u64) -> bool
     requires { k < length cells.old }
     ensures same { cells.new ≡ slice_set cells.old k (bit_or (slice_index cells.old k) bits) }
     ensures growth { Grows cells.old cells.new result }
@@ -34,8 +35,7 @@ fn join(cells: &mut [u64], k: usize, bits: u64) -> bool
 }
 
 // Adds the item with origin i, end j and the place d, and tells whether that changed the cells.
-pub(crate) fn add(cells: &mut [u64], i: usize, j: usize, d: usize) -> bool
-    requires long { 4802 ≤ length cells.old }
+pub(crate) fn add(cells: &mut Cells, i: usize, j: usize, d: usize) -> bool
     requires inside { (i ≤ 48) × ((j ≤ 48) × (d < 128)) }
     ensures { Added (cell_of i j) d cells.old cells.new result }
 {
@@ -45,14 +45,13 @@ pub(crate) fn add(cells: &mut [u64], i: usize, j: usize, d: usize) -> bool
 // Moves the dot over one symbol: for each item with origin i and end s whose place is in the set at m of the mask, adds
 // the item with end j and the next place. Tells whether that changed the cells.
 pub(crate) fn advance(
-    cells: &mut [u64],
+    cells: &mut Cells,
     i: usize,
     s: usize,
     j: usize,
     mask: &[u64],
     m: usize,
 ) -> bool
-    requires long { 4802 ≤ length cells.old }
     requires inside { (i ≤ 48) × ((s ≤ 48) × ((j ≤ 48) × (m + 1 < length mask.now))) }
     ensures { Advanced (cell_of i j) (cell_of i s) mask.now m cells.old cells.new result }
 {
@@ -69,8 +68,7 @@ pub(crate) fn advance(
 }
 
 // The places of the items of column j, of any origin.
-pub(crate) fn gather(cells: &[u64], j: usize) -> Places
-    requires long { 4802 ≤ length cells.now }
+pub(crate) fn gather(cells: &Cells, j: usize) -> Places
     requires inside { j ≤ 48 }
     ensures { Gathered cells.now j (j + 1) result.low result.high }
 {
@@ -94,11 +92,9 @@ pub(crate) fn meets(places: Places, mask: &[u64], m: usize) -> bool
 }
 
 // Empties the cells from `start` to `end`.
-pub(crate) fn clear(cells: &mut [u64], start: usize, end: usize)
+pub(crate) fn clear(cells: &mut Cells, start: usize, end: usize)
     requires { (start ≤ end) × (end ≤ length cells.old) }
     ensures { Cleared start end cells.old cells.new }
 {
-    for k in start..end {
-        cells[k] = 0;
-    }
+    cells[start..end].fill(0);
 }

@@ -1,7 +1,7 @@
 //! The Earley chart of a grammar, as sets of bits in cells that the caller lends.
 //!
 //! The item with origin i, end j and the place d is bit d % 64 of the cell 2 * (49 * j + i) + d / 64, and the bit is 1
-//! exactly if the item is derivable from the words. The first 4802 cells are the chart, and no other cell is written.
+//! exactly if the item is derivable from the words.
 //! Kinds are numbered from 0 here: the kind k is the symbol 16 + k.
 
 #![tactic(auto)]
@@ -12,7 +12,7 @@ ghost use Rattle.grammar.specs.Grammar.{Grammar};
 ghost use Rattle.tables.specs.declared.tables.Tables.{Tables};
 ghost use Rattle.tables.specs.Meaning.{Means, first_of};
 ghost use Rattle.theory.specs.Claims.{Awaited, Accepted};
-ghost use Rattle.chart.specs.Chart.{Marked, Charted, WhereCharted, RestKept};
+ghost use Rattle.chart.specs.Chart.{Marked, Charted, WhereCharted};
 ghost use Rattle.chart.specs.Cells.{Meets};
 ghost use Rattle.chart.specs.Columns.{Moves, Scanned, Ends};
 
@@ -24,9 +24,13 @@ use closing::close_column;
 use items::{Places, add, advance, clear, gather, has, meets};
 use tables::tables::Tables;
 
+// How many cells a chart has: two for each origin and each end.
+pub const CELL_COUNT: usize = 4802;
+
+pub type Cells = [u64; CELL_COUNT];
+
 // Adds the first item of the production p, if p is a live production of the start symbol.
-fn add_start(t: &Tables, cells: &mut [u64], p: usize) -> bool
-    requires long { 4802 ≤ length cells.old }
+fn add_start(t: &Tables, cells: &mut Cells, p: usize) -> bool
     requires inside { p < t.now.count }
     ensures moved { Moves t.now 0 cells.old cells.new result }
     ensures makes { Has t.now.starts p → Marked cells.new 0 0 (first_of t.now p) }
@@ -39,10 +43,9 @@ fn add_start(t: &Tables, cells: &mut [u64], p: usize) -> bool
 }
 
 // Makes the cells the chart of no words.
-pub fn open_chart(t: &Tables, cells: &mut [u64])
+pub fn open_chart(t: &Tables, cells: &mut Cells)
     requires { 4802 ≤ length cells.old }
-    ensures charted { (g : Grammar) → Means t.now g → Charted t.now g [] cells.new }
-    ensures rest { RestKept cells.old cells.new }
+    ensures { (g : Grammar) → Means t.now g → Charted t.now g [] cells.new }
 {
     clear(cells, 0, 4802);
     for p in 0..t.count {
@@ -52,8 +55,7 @@ pub fn open_chart(t: &Tables, cells: &mut [u64])
 }
 
 // Moves the items of column j that wait for the kind into column j + 1.
-fn scan(t: &Tables, cells: &mut [u64], j: usize, kind: usize)
-    requires long { 4802 ≤ length cells.old }
+fn scan(t: &Tables, cells: &mut Cells, j: usize, kind: usize)
     requires inside { (j < 48) × (kind < 32) }
     ensures { Scanned t.now j kind (j + 1) cells.old cells.new }
 {
@@ -63,8 +65,7 @@ fn scan(t: &Tables, cells: &mut [u64], j: usize, kind: usize)
 }
 
 // Adds a word of the kind to the chart of n words, if an item waits for the kind. Else the cells stay as they are.
-pub fn put(t: &Tables, cells: &mut [u64], n: usize, kind: usize) -> bool
-    requires long { 4802 ≤ length cells.old }
+pub fn put(t: &Tables, cells: &mut Cells, n: usize, kind: usize) -> bool
     requires inside { (n < 48) × (kind < 32) }
     ensures taken { result ≡ true →
         WhereCharted t.now n cells.old
@@ -72,7 +73,6 @@ pub fn put(t: &Tables, cells: &mut [u64], n: usize, kind: usize) -> bool
     ensures refused { result ≡ false →
         (cells.new ≡ cells.old)
         × WhereCharted t.now n cells.old (λ g ws. ¬ Awaited g ws (16 + kind)) }
-    ensures rest { RestKept cells.old cells.new }
 {
     if !meets(gather(cells, n), &t.before, 2 * kind) {
         return false;
@@ -83,22 +83,19 @@ pub fn put(t: &Tables, cells: &mut [u64], n: usize, kind: usize) -> bool
 }
 
 // Takes the last of n words out of the chart: empties column n, which is 98 cells.
-pub fn take_back(cells: &mut [u64], n: usize)
-    requires long { 4802 ≤ length cells.old }
-    requires inside { n ≤ 48 }
-    ensures charted { (t : Tables) (g : Grammar) (ws : List ℕ) (a : ℕ) →
+pub fn take_back(cells: &mut Cells, n: usize)
+    requires { n ≤ 48 }
+    ensures { (t : Tables) (g : Grammar) (ws : List ℕ) (a : ℕ) →
         Means t g →
         length ws + 1 ≡ n →
         Charted t g (ws ++ a ∷ []) cells.old →
         Charted t g ws cells.new }
-    ensures rest { RestKept cells.old cells.new }
 {
     clear(cells, 98 * n, 98 * (n + 1));
 }
 
 // Whether the production q, of the start symbol, has a complete item that spans the n words.
-fn spans(t: &Tables, cells: &[u64], n: usize, q: usize) -> bool
-    requires long { 4802 ≤ length cells.now }
+fn spans(t: &Tables, cells: &Cells, n: usize, q: usize) -> bool
     requires inside { (n ≤ 48) × (q < t.now.count) }
     ensures yes { result ≡ true → Ends t.now n cells.now q }
     ensures no { result ≡ false → ¬ Ends t.now n cells.now q }
@@ -110,8 +107,7 @@ fn spans(t: &Tables, cells: &[u64], n: usize, q: usize) -> bool
 }
 
 // Whether the n words of the chart are a sentence.
-pub fn accepts(t: &Tables, cells: &[u64], n: usize) -> bool
-    requires long { 4802 ≤ length cells.now }
+pub fn accepts(t: &Tables, cells: &Cells, n: usize) -> bool
     requires inside { n ≤ 48 }
     ensures yes { result ≡ true → WhereCharted t.now n cells.now Accepted }
     ensures no { result ≡ false → WhereCharted t.now n cells.now (λ g ws. ¬ Accepted g ws) }
@@ -138,8 +134,7 @@ fn with_kind(t: &Tables, places: Places, kinds: u32, kind: usize) -> u32
 }
 
 // The set of the kinds that an item behind the n words of the chart waits for.
-pub fn expected_kinds(t: &Tables, cells: &[u64], n: usize) -> u32
-    requires long { 4802 ≤ length cells.now }
+pub fn expected_kinds(t: &Tables, cells: &Cells, n: usize) -> u32
     requires inside { n ≤ 48 }
     ensures { WhereCharted t.now n cells.now
         (λ g ws. (b : ℕ) → b < 32 → Has result b ↔ Awaited g ws (16 + b)) }

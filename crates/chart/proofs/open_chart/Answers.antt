@@ -1,4 +1,4 @@
-use Rattle.std.proofs.Common.{◌∙◌, inr, arith}
+use Rattle.std.proofs.Common.{arith}
 use Rattle.chart.proofs.Steady.{started_none, started_more}
 use Rattle.chart.proofs.Words.{opened}
 use Rattle.chart.proofs.open_chart.Goals as goal
@@ -12,13 +12,7 @@ loop-p-preserved c =
     started_more c.args.t.now c.loop-p.p c.clear.new.cells c.loop-p.cells _ _ c.loop-p.invariant v.moved v.makes
 
 pub returns : goal.returns
-returns c = record {
-  charted =
-      opened c.args.t.now c.loop-p.p c.args.cells.now c.clear.new.cells c.loop-p.cells _ c.clear.ensures (omega arith)
-      c.loop-p.invariant
-      c.close_column.ensures.closed;
-  rest = λ k l.
-      c.close_column.ensures.moved.1.other k (inr (omega arith))
-      ∙ c.loop-p.invariant.moved.1.other k (inr (omega arith))
-      ∙ c.clear.ensures.other k (inr l);
-}
+returns c =
+    opened c.args.t.now c.loop-p.p c.args.cells.now c.clear.new.cells c.loop-p.cells _ c.clear.ensures (omega arith)
+    c.loop-p.invariant
+    c.close_column.ensures.closed

@@ -1,4 +1,4 @@
-use Rattle.std.proofs.Common.{refl, ◌∙◌, inr, arith, rules}
+use Rattle.std.proofs.Common.{refl, arith, rules}
 use Rattle.chart.proofs.Words.{awaited, put_charted}
 use Rattle.chart.proofs.put.Goals as goal
 
@@ -12,7 +12,6 @@ returns-then-not-meets c = record {
         ((awaited c.args.t.now c.args.n c.args.kind _ _ c.args.cells.now (omega arith) (omega arith) c.gather.ensures
         g ws m len chart).1 w),
   );
-  rest = λ k l. refl;
 }
 
 pub returns : goal.returns
@@ -29,5 +28,4 @@ returns c =
             c.scan.ensures c.close_column.ensures.closed g ws m len chart,
       );
       refused = λ t. search rules;
-      rest = λ k l. c.close_column.ensures.moved.1.other k (inr (omega arith)) ∙ c.scan.ensures.other k (inr (omega arith));
     }
