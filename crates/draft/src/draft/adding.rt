@@ -106,7 +106,7 @@ impl Draft {
         ensures yes { result ≡ true → ¬ NoRoom (model self.now) (production p.now) }
         ensures no { result ≡ false → NoRoom (model self.now) (production p.now) }
     {
-        self.count < 32 && self.place_count() + p.right().len() + 1 <= 128
+        self.count < 32 && self.place_count() + p.places() <= 128
     }
 
     // Adds a production that is in range, has room and repeats none, unless a nonterminal would then lead to itself.

@@ -6,7 +6,7 @@ ghost use Rattle.draft.specs.Calls.{Names};
 ghost use Rattle.draft.specs.Stored.{Numbers};
 
 use super::Draft;
-use grammar::production::Production;
+use grammar::production::{Production, place_count};
 use grammar::rule::Rule;
 
 impl Draft {
@@ -68,10 +68,6 @@ impl Draft {
     pub fn place_count(&self) -> usize
         ensures { result ≡ places (model self.now).productions }
     {
-        let mut count = 0;
-        for i in 0..self.count {
-            count += self.productions[i].right().len() + 1;
-        }
-        count
+        place_count(self.productions())
     }
 }
