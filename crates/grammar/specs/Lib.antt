@@ -6,3 +6,4 @@ pub mod Trees
 pub mod Items
 pub mod Refusals
 pub mod Model
+pub mod Bytes

@@ -2,6 +2,7 @@
 
 #![tactic(auto)]
 
+pub mod bytes;
 pub mod production;
 pub mod refusals;
 pub mod rule;

@@ -1,4 +1,3 @@
 pub mod Scales
 pub mod ThreeScales
-pub mod Counts
-pub mod Prices
+pub mod Laws

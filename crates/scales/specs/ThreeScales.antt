@@ -1,6 +1,6 @@
 -- The three scales: whether there is a tree, how many there are, and the smallest price. Assumes nothing.
 use Rattle.std.specs.Prelude.{ℕ, ◌+◌, ◌*◌, min, Bool, true, false, ◌&&◌, ◌||◌}
-use Rattle.std.proofs.Common.{arith}
+use Rattle.std.proofs.Math.Nat.{le_trans, min-le_left, min-le_right}
 use Rattle.scales.specs.declared.values.YesNo.{YesNo}
 use Rattle.scales.specs.declared.values.Count.{Count}
 use Rattle.scales.specs.declared.values.Price.{Price}
@@ -22,7 +22,7 @@ yes_no = record {
 
 -- the number n, or 4,294,967,295 where n is greater
 abbrev pub counted : ℕ → Count
-counted n = record { value = min n 4294967295; fits = omega arith }
+counted n = record { value = min n 4294967295; fits = min-le_right n 4294967295 }
 
 -- every price counts one; sums and products stop at 4,294,967,295
 abbrev pub count : Scale Count
@@ -36,11 +36,11 @@ count = record {
 
 -- the price n; 4,294,967,295 and every greater one stand for none
 abbrev pub priced : ℕ → Price
-priced n = record { value = min n 4294967295; fits = omega arith }
+priced n = record { value = min n 4294967295; fits = min-le_right n 4294967295 }
 
 -- the smaller of two prices
 abbrev pub smaller : Price → Price → Price
-smaller x y = record { value = min x.value y.value; fits = let h = x.fits in omega arith }
+smaller x y = record { value = min x.value y.value; fits = le_trans (min-le_left x.value y.value) x.fits }
 
 -- every price is itself; a sum is the smaller of the two, and a product adds them
 abbrev pub price : Scale Price

@@ -1,11 +1,12 @@
 ghost use Rattle.std.specs.Prelude.{◌≡◌};
 ghost use Rattle.scales.specs.ThreeScales.{count};
-ghost use Rattle.scales.specs.Counts.{count_laws};
+ghost use Rattle.scales.specs.Laws.{count_laws};
 
 use crate::Semiring;
 use crate::values::Count;
 
 // How many trees there are: sums and products stop at 4,294,967,295.
+#[tactic(auto, using(crate::specs::Laws::same_count))]
 impl Semiring for Count {
     ghost scale = { count };
 

@@ -1,11 +1,12 @@
 ghost use Rattle.std.specs.Prelude.{◌≡◌};
 ghost use Rattle.scales.specs.ThreeScales.{price};
-ghost use Rattle.scales.specs.Prices.{price_laws};
+ghost use Rattle.scales.specs.Laws.{price_laws};
 
 use crate::Semiring;
 use crate::values::Price;
 
 // The smallest price of a tree: a sum is the smaller of the two, and a product adds them up to 4,294,967,295.
+#[tactic(auto, using(crate::specs::Laws::same_price))]
 impl Semiring for Price {
     ghost scale = { price };
 

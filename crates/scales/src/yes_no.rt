@@ -1,6 +1,6 @@
 ghost use Rattle.std.specs.Prelude.{◌≡◌};
 ghost use Rattle.scales.specs.ThreeScales.{yes_no};
-ghost use Rattle.std.proofs.Common.{rules};
+ghost use Rattle.scales.specs.Laws.{yes_no_laws};
 
 use crate::Semiring;
 use crate::values::YesNo;
@@ -9,7 +9,7 @@ use crate::values::YesNo;
 impl Semiring for YesNo {
     ghost scale = { yes_no };
 
-    ghost laws = { Prim.search rules };
+    ghost laws = { yes_no_laws };
 
     fn none() -> YesNo {
         YesNo { yes: false }

@@ -1,6 +1,0 @@
-use Rattle.std.proofs.Common.{rules}
-use Rattle.scales.specs.Prices.{same_price}
-use Rattle.scales.proofs.price.PriceSemiring.times.Goals as goal
-
-pub returns : goal.returns
-returns c = same_price _ _ (search rules)
