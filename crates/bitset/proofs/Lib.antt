@@ -1,3 +1,4 @@
 pub mod Digits
 pub mod Warshall
 pub mod Joining
+pub mod Reaching

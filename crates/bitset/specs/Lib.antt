@@ -1,2 +1,4 @@
 pub mod Bits
+pub mod Cells
 pub mod Relations
+pub mod Steps

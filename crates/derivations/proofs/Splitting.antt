@@ -1,17 +1,8 @@
 -- The symbols of a right side before and behind a position.
-use Rattle.std.proofs.Common.{◌≡◌, ℕ, ◌+◌, ◌-◌, ◌<◌, ◌≤◌, List, get_or, take, drop, sym, ap, ◌∙◌, ⊎_elim, arith, length-drop, length-take}
+use Rattle.std.proofs.Common.{◌≡◌, ℕ, ◌+◌, ◌-◌, ◌<◌, ◌≤◌, List, get_or, take, drop, ap, ◌∙◌, ⊎_elim, arith, length-drop, length-take}
 use Rattle.std.proofs.lemmas.List.{get_or-take, get_or-drop}
 use Rattle.std.proofs.lemmas.Bool.{cases_lt}
 use Rattle.derivations.specs.Steps.{EveryIn, OthersIn}
-
-pub before : (set : ℕ) (xs : List ℕ) (k : ℕ) → OthersIn set xs k → EveryIn set (take k xs)
-before set xs k others i x at =
-    let short = length-take k xs in
-    others i x (omega (arith, at.0, short), sym (get_or-take k xs i 0 (omega (arith, at.0, short))) ∙ at.1) (λ e. omega (arith, at.0, short))
-
-pub behind : (set : ℕ) (xs : List ℕ) (k : ℕ) → OthersIn set xs k → EveryIn set (drop (k + 1) xs)
-behind set xs k others i x at =
-    others (k + 1 + i) x (omega (arith, at.0, length-drop (k + 1) xs), sym (get_or-drop (k + 1) xs i 0) ∙ at.1) (λ e. omega arith)
 
 pub around : (set : ℕ) (xs : List ℕ) (k : ℕ) → EveryIn set (take k xs) → EveryIn set (drop (k + 1) xs) → OthersIn set xs k
 around set xs k front back i x at not =

@@ -1,5 +1,6 @@
 -- The steps of the computations: what is in a set of symbols, and what comes into a relation. Assumes nothing.
-use Rattle.std.specs.Prelude.{◌≡◌, ℕ, ◌<◌, ◌⊎◌, ◌↔◌, List}
+pub use Rattle.bitset.specs.Steps.{Adds, Gathers}
+use Rattle.std.specs.Prelude.{◌≡◌, ℕ, List}
 use Rattle.grammar.specs.declared.rule.Relation.TheVariants.{Priority}
 use Rattle.grammar.specs.Grammar.{Production, Rule, Nonterminal, At, left_at, right_at}
 use Rattle.grammar.specs.Derivations.{Nullable}
@@ -28,11 +29,3 @@ Passes set p k x y = (x ≡ p.left) × At p.right k y × Nonterminal y × Others
 -- the rule says that x has priority over y
 abbrev pub Prefers : Rule → ℕ → ℕ → Type 0
 Prefers r x y = r ≡ record { upper = x; relation = Priority; lower = y }
-
--- after the step, the relation holds what it held before and what is new
-abbrev pub Adds : (ℕ → ℕ → Type 0) → (ℕ → ℕ → Type 0) → (ℕ → ℕ → Type 0) → Type 0
-Adds before after new = (x y : ℕ) → after x y ↔ (before x y ⊎ new x y)
-
--- after n steps
-abbrev pub Gathers : (ℕ → ℕ → Type 0) → (ℕ → ℕ → Type 0) → ℕ → (ℕ → ℕ → ℕ → Type 0) → Type 0
-Gathers before after n new = Adds before after (λ x y. (k : ℕ) × (k < n) × new k x y)

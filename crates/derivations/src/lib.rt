@@ -14,6 +14,7 @@ ghost use Rattle.bitset.specs.Relations.{Holds};
 ghost use Rattle.derivations.specs.Ranges.{Lefts, Between, Numbers};
 ghost use Rattle.derivations.specs.Steps.{EveryIn, OthersIn, SoundSet, ClosedAt, Passes, Prefers, Adds, Gathers};
 
+use bitset::growing::grown;
 use bitset::rows::Rows;
 use bitset::{contains, with};
 use grammar::production::Production;
@@ -24,12 +25,7 @@ fn all_in(symbols: &[u8], set: u32) -> bool
     ensures yes { result ≡ true → EveryIn set symbols.now }
     ensures no { result ≡ false → ¬ EveryIn set symbols.now }
 {
-    for symbol in symbols {
-        if !contains(set, *symbol as usize) {
-            return false;
-        }
-    }
-    true
+    symbols.iter().all(|symbol| contains(set, *symbol as usize))
 }
 
 // The set with the left side of the production, if every symbol of the right side is in the set.
@@ -65,14 +61,7 @@ pub fn nullable(productions: &[Production]) -> u32
     requires { Lefts (productions_of productions.now) }
     ensures { (s : ℕ) → Has result s ↔ Nullable (productions_of productions.now) s }
 {
-    let mut set = 0;
-    loop {
-        let next = pass(productions, set);
-        if next == set {
-            return set;
-        }
-        set = next;
-    }
+    grown(|set| pass(productions, set))
 }
 
 // Whether every symbol but the one at k is in the set.
@@ -81,32 +70,20 @@ fn others_in(right: &[u8], k: usize, set: u32) -> bool
     ensures yes { result ≡ true → OthersIn set right.now k }
     ensures no { result ≡ false → ¬ OthersIn set right.now k }
 {
-    if !all_in(&right[..k], set) {
-        return false;
-    }
-    all_in(&right[k + 1..], set)
+    all_in(&right[..k], set) && all_in(&right[k + 1..], set)
 }
 
-// Relates the left side to the symbol at k, if that is a nonterminal and all others are in the set.
-fn put_place(rows: &mut Rows, p: &Production, k: usize, set: u32)
-    requires { (Nonterminal (production_of p.now).left) × (k < length (production_of p.now).right) }
-    ensures { Adds (Holds rows.old) (Holds rows.new) (Passes set (production_of p.now) k) }
-{
-    let right = p.right();
-    let symbol = right[k];
-    if symbol < 16 && others_in(right, k, set) {
-        rows.put(p.left() as usize, symbol as usize);
-    }
-}
-
-// The same for each position of the right side.
+// Relates the left side to each nonterminal of the right side all of whose neighbours are in the set.
 fn put_places(rows: &mut Rows, p: &Production, set: u32)
     requires { Nonterminal (production_of p.now).left }
     ensures { Gathers (Holds rows.old) (Holds rows.new) (length (production_of p.now).right)
         (Passes set (production_of p.now)) }
 {
-    for k in 0..p.right().len() {
-        put_place(rows, p, k, set);
+    let right = p.right();
+    for (k, symbol) in right.iter().enumerate() {
+        if *symbol < 16 && others_in(right, k, set) {
+            rows.put(p.left() as usize, *symbol as usize);
+        }
     }
 }
 
@@ -139,7 +116,7 @@ fn put_rule(rows: &mut Rows, rule: &Rule)
     requires { Between rule.now }
     ensures { Adds (Holds rows.old) (Holds rows.new) (Prefers (rule_of rule.now)) }
 {
-    if matches!(rule.relation, Relation::Priority) {
+    if rule.relation == Relation::Priority {
         rows.put(rule.upper as usize - 1, rule.lower as usize - 1);
     }
 }

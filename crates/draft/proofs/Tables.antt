@@ -5,6 +5,7 @@ use Rattle.std.proofs.lemmas.List.Sums.{sum_by_push, sum_by-take-le}
 use Rattle.grammar.specs.declared.production.Production.{Production as Stored}
 use Rattle.grammar.specs.Grammar.{Production, places}
 use Rattle.grammar.specs.Model.{production, productions}
+use Rattle.grammar.proofs.Sizes.{few_symbols}
 
 module _ {X Y : Type 0} (f : X → Y) (xs : List X) where
   pub counted : (n : ℕ) → n ≤ length xs → n ≡ length (map f (take n xs))
@@ -34,7 +35,7 @@ places_within ps i n h =
 
 -- a stored production's right side has at most six symbols
 pub short : (p : Stored) → ¬ (6 < length (production p).right)
-short p h = let s = p.short in omega (arith, length-take-le p.len p.right (omega (arith, p.whole)))
+short p h = omega (arith, few_symbols p)
 
 pub places_push : (ps : List Production) (p : Production) → places (ps ++ p ∷ []) ≡ places ps + (length p.right + 1)
 places_push ps p = sum_by_push (λ (q : Production). length q.right + 1) ps p

@@ -5,5 +5,5 @@ pub mod Sound
 pub mod Trees
 pub mod Items
 pub mod Refusals
-pub mod Model
 pub mod Bytes
+pub mod Model

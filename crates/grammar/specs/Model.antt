@@ -1,12 +1,13 @@
 -- The model of the plain types. Assumes nothing.
-use Rattle.std.specs.Prelude.{◌-◌, List, map, take}
+use Rattle.std.specs.Prelude.{◌-◌, List, map}
 use Rattle.grammar.specs.declared.production.Production.{Production as Stored}
 use Rattle.grammar.specs.declared.rule.Rule.{Rule as Numbered}
+use Rattle.grammar.specs.Bytes.{items}
 use Rattle.grammar.specs.Grammar.{Production, Rule}
 
 -- what a stored production is
 abbrev pub production : Stored → Production
-production p = record { left = p.left; right = take p.len p.right; price = p.price }
+production p = record { left = p.left; right = items p.right; price = p.price }
 
 abbrev pub productions : List Stored → List Production
 productions ps = map production ps

@@ -1,4 +1,6 @@
-ghost use Rattle.std.specs.Prelude.{◌≡◌, ◌≤◌, length};
+ghost use Rattle.std.specs.Prelude.{◌≤◌};
+
+use crate::bytes::Bytes;
 
 mod methods;
 
@@ -8,10 +10,7 @@ pub use methods::place_count;
 #[derive(Clone, Copy)]
 pub struct Production {
     left: u8,
-    right: [u8; 6],
-    len: usize,
+    right: Bytes<6>,
     price: u16,
-    ghost whole: { length right ≡ 6 },
-    ghost short: { len ≤ 6 },
     ghost priced: { price ≤ 65535 },
 }

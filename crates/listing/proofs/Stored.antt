@@ -1,13 +1,14 @@
 -- What is read of stored productions and of ranks.
 use Rattle.std.proofs.Common.{◌≡◌, ℕ, ◌<◌, ◌≤◌, min, List, length, get_or, sym, ap, ◌∙◌, arith}
-use Rattle.std.proofs.lemmas.List.{get_or_past, get_or-map, length-take-le}
+use Rattle.std.proofs.lemmas.List.{get_or_past, get_or-map}
 use Rattle.grammar.specs.declared.production.Production.{Production as Stored}
 use Rattle.grammar.specs.Grammar.{Production, no_production, left_at, right_at}
 use Rattle.grammar.specs.Model.{production, productions}
+use Rattle.grammar.proofs.Sizes.{few_symbols}
 
 -- a right side has at most six symbols
 pub short : (p : Stored) → length (production p).right ≤ 6
-short p = let s = p.short in omega (arith, length-take-le p.len p.right (omega (arith, p.whole)))
+short = few_symbols
 
 -- what the methods of the stored production at p answer
 module _ (ps : List Stored) (p : ℕ) (x : Stored) (l : p < length ps) where

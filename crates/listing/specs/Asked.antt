@@ -8,7 +8,7 @@ use Rattle.tables.specs.declared.tables.Tables.{Tables}
 use Rattle.tables.specs.Meaning.{first_of, last_of, Waits, Means}
 use Rattle.chart.specs.Chart.{Marked, Charted}
 use Rattle.listing.specs.declared.sources.Sources.{Sources}
-use Rattle.listing.specs.declared.sources.Node.{Node}
+use Rattle.listing.specs.declared.node.Node.{Node}
 
 -- the tables, the productions, the words and the cells of the chart
 abbrev pub tables_in : Sources → Tables
@@ -22,14 +22,6 @@ words_in s = s.words.now
 
 abbrev pub cells_in : Sources → List ℕ
 cells_in s = s.cells.now
-
--- the lengths fit each other
-abbrev pub Usable : Sources → Type 0
-Usable s = (4802 ≤ length (cells_in s)) × (length (words_in s) ≤ 48) × ((tables_in s).count ≡ length s.productions.now)
-
--- the node is of a production of the tables, over words that are there
-abbrev pub Inside : Sources → Node → Type 0
-Inside s n = (n.production < (tables_in s).count) × (n.start ≤ n.end) × (n.end ≤ length (words_in s))
 
 -- the sources are the tables and the productions of the grammar, and the chart of the words
 pub record OfGrammar (s : Sources) (g : Grammar) : Type 0 where
@@ -65,55 +57,67 @@ rank_in s p = min (slice_index (tables_in s).ranks (left_at (productions_in s) p
 abbrev pub weight : Sources → ℕ → ℕ → ℕ → ℕ
 weight s p i j = (j - i) * 17 + rank_in s p
 
+-- the node is of the production q over the same sources, and its words begin at i
+abbrev pub IsNode : Node → Sources → ℕ → ℕ → Type 0
+IsNode n s q i = (n.sources ≡ s) × (n.production ≡ q) × (n.start ≡ i)
+
 -- the chart has q whole over the words from e to m, m is a position of `next`, and q weighs less there than the node
-abbrev pub CanBe : Sources → Node → ℕ → ℕ → ℕ → ℕ → Type 0
-CanBe s n next q e m = Has next m × Whole s q e m × (weight s q e m < weight s n.production n.start n.end)
+abbrev pub CanBe : Node → ℕ → ℕ → ℕ → ℕ → Type 0
+CanBe n next q e m = Has next m × Whole n.sources q e m × (weight n.sources q e m < weight n.sources n.production n.start n.end)
 
 -- the node's child at position k can be of q, over the words from e to m; `next` has the positions where the symbols behind k can begin
-pub record Choice (s : Sources) (n : Node) (k e next q m : ℕ) : Type 0 where
-  pub known : q < (tables_in s).count
-  pub fits : Fits s n.production k q
+pub record Choice (n : Node) (k e next q m : ℕ) : Type 0 where
+  pub known : q < (tables_in n.sources).count
+  pub fits : Fits n.sources n.production k q
   pub order : e ≤ m
   pub within : m ≤ n.end
-  pub can : CanBe s n next q e m
+  pub can : CanBe n next q e m
 
--- of all such children it has the smallest production, and for it the smallest end
-pub record FirstChoice (s : Sources) (n : Node) (k e next q m : ℕ) : Type 0 where
-  pub can : Choice s n k e next q m
-  pub smaller : (r l : ℕ) → r < q → ¬ Choice s n k e next r l
-  pub sooner : (l : ℕ) → l < m → ¬ Choice s n k e next q l
-
--- at any position, q from e on first ends at m
-pub record FirstEnd (s : Sources) (n : Node) (e next q m : ℕ) : Type 0 where
-  pub can : (k : ℕ) → Fits s n.production k q → Choice s n k e next q m
-  pub sooner : (k l : ℕ) → l < m → ¬ Choice s n k e next q l
+-- q from e on first ends at m
+pub record FirstEnd (n : Node) (e next q m : ℕ) : Type 0 where
+  pub order : e ≤ m
+  pub within : m ≤ n.end
+  pub can : CanBe n next q e m
+  pub sooner : (l : ℕ) → e ≤ l → l < m → ¬ CanBe n next q e l
 
 -- or ends nowhere
-abbrev pub NoEnd : Sources → Node → ℕ → ℕ → ℕ → Type 0
-NoEnd s n e next q = (k m : ℕ) → ¬ Choice s n k e next q m
+abbrev pub NoEnd : Node → ℕ → ℕ → ℕ → Type 0
+NoEnd n e next q = (m : ℕ) → e ≤ m → m ≤ n.end → ¬ CanBe n next q e m
+
+-- there is no such child of q
+abbrev pub NoChild : Node → ℕ → ℕ → ℕ → ℕ → Type 0
+NoChild n k e next q = Fits n.sources n.production k q → NoEnd n e next q
+
+-- of all such children it has the smallest production, and for it the smallest end
+pub record FirstChoice (n : Node) (k e next q m : ℕ) : Type 0 where
+  pub known : q < (tables_in n.sources).count
+  pub fits : Fits n.sources n.production k q
+  pub first : FirstEnd n e next q m
+  pub smaller : (r : ℕ) → r < q → NoChild n k e next r
 
 -- there is no such child
-abbrev pub NoChoice : Sources → Node → ℕ → ℕ → ℕ → Type 0
-NoChoice s n k e next = (q m : ℕ) → ¬ Choice s n k e next q m
+abbrev pub NoChoice : Node → ℕ → ℕ → ℕ → Type 0
+NoChoice n k e next = (q : ℕ) → q < (tables_in n.sources).count → NoChild n k e next q
 
 -- the symbol at position k can stand from e on: a nonterminal by a child, a kind by the word at e
-abbrev pub Opens : Sources → Node → ℕ → ℕ → ℕ → Type 0
-Opens s n k e next =
-    ((symbol_in s n.production k < 16) × ((q : ℕ) × ((m : ℕ) × Choice s n k e next q m)))
-    ⊎ ((16 ≤ symbol_in s n.production k) × ((e < n.end) × ((slice_index (words_in s) e ≡ symbol_in s n.production k) × Has next (e + 1))))
+abbrev pub Opens : Node → ℕ → ℕ → ℕ → Type 0
+Opens n k e next =
+    ((symbol_in n.sources n.production k < 16) × ((q : ℕ) × ((m : ℕ) × Choice n k e next q m)))
+    ⊎ ((16 ≤ symbol_in n.sources n.production k) × ((e < n.end) × ((slice_index (words_in n.sources) e ≡ symbol_in n.sources n.production k) × Has next (e + 1))))
 
 -- the position e is of the row: the first k symbols of the node end there in the chart, and the symbol at k can stand there
-abbrev pub InRow : Sources → Node → ℕ → ℕ → ℕ → Type 0
-InRow s n k next e = (n.start ≤ e) × (e ≤ n.end) × Begun s n.production k n.start e × Opens s n k e next
+abbrev pub InRow : Node → ℕ → ℕ → ℕ → Type 0
+InRow n k next e = (n.start ≤ e) × (e ≤ n.end) × Begun n.sources n.production k n.start e × Opens n k e next
 
 -- the row has exactly those positions
-abbrev pub RowIs : Sources → Node → ℕ → ℕ → ℕ → Type 0
-RowIs s n k next row = (e : ℕ) → Has row e ↔ InRow s n k next e
+abbrev pub RowIs : Node → ℕ → ℕ → ℕ → Type 0
+RowIs n k next row = (e : ℕ) → Has row e ↔ InRow n k next e
 
 -- the rows from position k on: behind the last symbol only the node's end
-pub record RowsFrom (s : Sources) (n : Node) (k : ℕ) (rows : List ℕ) : Type 0 where
-  pub last : (e : ℕ) → Has (slice_index rows (length (right_in s n.production))) e ↔ (e ≡ n.end)
-  pub each : (r : ℕ) → k ≤ r → r < length (right_in s n.production) → RowIs s n r (slice_index rows (r + 1)) (slice_index rows r)
+pub record RowsFrom (n : Node) (k : ℕ) (rows : List ℕ) : Type 0 where
+  pub last : (e : ℕ) → Has (slice_index rows (length (right_in n.sources n.production))) e ↔ (e ≡ n.end)
+  pub each :
+      (r : ℕ) → k ≤ r → r < length (right_in n.sources n.production) → RowIs n r (slice_index rows (r + 1)) (slice_index rows r)
 
 -- p is a live production of the start symbol, and the chart has its complete item over all the words
 abbrev pub Root : Sources → ℕ → Type 0

@@ -1,5 +1,7 @@
 -- Tables whose parts are those of a grammar.
 use Rattle.std.proofs.Common.{◌≡◌, ℕ, suc, ◌+◌, ◌-◌, ◌*◌, ◌<◌, ◌≤◌, ◌↔◌, List, length, get_or, sym, ap, subst, add-one, arith}
+use Rattle.grammar.specs.declared.production.Production.{Production as Stored}
+use Rattle.grammar.specs.declared.rule.Rule.{Rule as Numbered}
 use Rattle.grammar.specs.Grammar.{Grammar, Known, left_at, size_of, places}
 use Rattle.grammar.specs.Derivations.{Leads}
 use Rattle.grammar.specs.Items.{Live}
@@ -9,6 +11,7 @@ use Rattle.tables.specs.Entries.{Tabulates, WaitsFor, KindNext}
 use Rattle.tables.specs.Meaning.{Means, Placed, first_of, last_of}
 use Rattle.tables.specs.Places.{Firsts, Lasts, first_place}
 use Rattle.tables.specs.Sets.{InSet}
+use Rattle.tables.specs.Stored.{grammar_of}
 use Rattle.tables.proofs.Counting.{place_next}
 use Rattle.tables.proofs.Tabulating.{entry_at, entry_placed}
 
@@ -70,3 +73,13 @@ module _ (t : Tables) (g : Grammar) (parts : Parts t g) where
         ranks = parts.ranks;
         ranks_small = parts.ranks_small;
       }
+
+-- tables mean the same for the same productions and rules
+pub means_same :
+    (t : Tables) (start : ℕ) (ps ps' : List Stored) (rs rs' : List Numbered) →
+    ps ≡ ps' →
+    rs ≡ rs' →
+    Means t (grammar_of start ps rs) →
+    Means t (grammar_of start ps' rs')
+means_same t start ps ps' rs rs' e f m =
+    subst (λ (xs : List Stored). Means t (grammar_of start xs rs')) e (subst (λ (xs : List Numbered). Means t (grammar_of start ps xs)) f m)

@@ -1,6 +1,6 @@
 -- Places by production and position, and arrays that are written in order.
 use Rattle.std.proofs.Common.{◌≡◌, ℕ, ◌+◌, ◌<◌, ◌≤◌, ◌≢◌, List, length, get_or, take, set, ap, ◌∙◌, ⊎_elim, arith, below_more}
-use Rattle.std.proofs.lemmas.List.{get_or-set_same, get_or-set_other, length-map, take-take}
+use Rattle.std.proofs.lemmas.List.{get_or_default, get_or-set_same, get_or-set_other, length-map, take-take}
 use Rattle.std.proofs.lemmas.List.Sums.{sum_by_more, sum_by-take-le}
 use Rattle.std.proofs.lemmas.Bool.{cases_order}
 use Rattle.grammar.specs.declared.production.Production.{Production as Stored}
@@ -21,6 +21,14 @@ module _ (ps : List Stored) (i : ℕ) (x : Stored) (l : i < length ps) (is : x �
 
   pub left_is : (left : ℕ) → left ≡ (production x).left → left ≡ left_at (productions ps) i
   left_is left e = e ∙ ap (λ (p : Production). p.left) (is_at ps i x l is)
+
+-- the same of the element itself
+module _ (ps : List Stored) (i : ℕ) (x : Stored) (l : i < length ps) where
+  pub right_there : (right : List ℕ) → right ≡ (production (get_or ps i x)).right → right ≡ right_at (productions ps) i
+  right_there = right_is ps i (get_or ps i x) l (get_or_default ps i x (get_or ps i x) l)
+
+  pub left_there : (left : ℕ) → left ≡ (production (get_or ps i x)).left → left ≡ left_at (productions ps) i
+  left_there = left_is ps i (get_or ps i x) l (get_or_default ps i x (get_or ps i x) l)
 
 -- an index of the stored productions is one of the productions
 pub known_at : (ps : List Stored) (i : ℕ) → i < length ps → i < length (productions ps)

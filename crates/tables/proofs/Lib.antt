@@ -1,3 +1,4 @@
+pub mod Ordering
 pub mod Relating
 pub mod Counting
 pub mod Marks

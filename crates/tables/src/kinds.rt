@@ -1,14 +1,12 @@
 ghost use Rattle.std.specs.Prelude.{◌≡◌, ℕ, ◌+◌, ◌<◌, ◌≤◌, length, slice_index};
-ghost use Rattle.grammar.specs.Grammar.{At, places};
+ghost use Rattle.grammar.specs.Grammar.{At};
 ghost use Rattle.grammar.specs.Model.{productions as productions_of};
-ghost use Rattle.grammar.specs.Sound.{SymbolsInRange};
-ghost use Rattle.derivations.specs.Steps.{Adds, Gathers};
+ghost use Rattle.bitset.specs.Cells.{Marked};
+ghost use Rattle.bitset.specs.Steps.{Adds, Gathers};
 ghost use Rattle.tables.specs.Entries.{Tabulates, KindNext};
-ghost use Rattle.tables.specs.Places.{Firsts};
-ghost use Rattle.tables.specs.Sets.{Marked};
 
-use crate::marking::mark;
-use grammar::production::Production;
+use crate::source::Source;
+use bitset::cells::mark;
 
 // Puts the place d into the set of the symbol, if that is a kind.
 fn mark_kind(before: &mut [u64], symbol: u8, d: usize)
@@ -33,18 +31,17 @@ fn mark_kinds(before: &mut [u64], right: &[u8], first: usize)
     }
 }
 
-// For each kind the places before it.
-pub(crate) fn before(productions: &[Production], first: &[u8]) -> [u64; 64]
-    requires symbols { SymbolsInRange (productions_of productions.now) }
-    requires small { places (productions_of productions.now) ≤ 128 }
-    requires begins { Firsts (productions_of productions.now) first.now }
-    requires long { length productions.now ≤ length first.now }
-    ensures whole { length result ≡ 64 }
-    ensures holds { Tabulates (productions_of productions.now) (KindNext (productions_of productions.now)) result }
-{
-    let mut before = [0u64; 64];
-    for p in 0..productions.len() {
-        mark_kinds(&mut before, productions[p].right(), first[p] as usize);
+impl Source<'_, '_> {
+    // For each kind the places before it.
+    pub(crate) fn before(&self) -> [u64; 64]
+        ensures whole { length result ≡ 64 }
+        ensures holds { Tabulates (productions_of self.now.productions.now)
+            (KindNext (productions_of self.now.productions.now)) result }
+    {
+        let mut before = [0u64; 64];
+        for (p, production) in self.productions.iter().enumerate() {
+            mark_kinds(&mut before, production.right(), self.first[p] as usize);
+        }
+        before
     }
-    before
 }

@@ -7,9 +7,9 @@ ghost use Rattle.derivations.specs.Ranges.{Numbers};
 ghost use Rattle.tables.specs.Meaning.{Means};
 ghost use Rattle.tables.specs.Stored.{grammar_of};
 
-use derivations::above;
 use grammar::production::Production;
 use grammar::rule::Rule;
+use source::Source;
 use tables::Tables;
 
 mod conflicts;
@@ -18,6 +18,7 @@ mod liveness;
 mod marking;
 mod placing;
 mod ranking;
+mod source;
 pub mod tables;
 mod waiting;
 
@@ -27,22 +28,17 @@ pub fn build(start: u8, productions: &[Production], rules: &[Rule]) -> Tables
     requires numbers { Numbers rules.now }
     ensures { Means result (grammar_of start productions.now rules.now) }
 {
-    let order = above(rules);
-    let first = placing::firsts(productions);
-    let last = placing::lasts(productions, &first);
-    let waits = waiting::waits(productions, rules, &order, &first);
-    let before = kinds::before(productions, &first);
-    let live = liveness::live(productions, &first, &waits);
-    let starts = liveness::starts(productions, live, start);
-    let ranks = ranking::ranks(productions);
+    let source = Source::new(productions, rules);
+    let waits = source.waits();
+    let live = source.live(&waits);
     Tables {
         count: productions.len(),
-        first,
-        last,
+        first: source.first,
+        last: source.lasts(),
         waits,
-        before,
+        before: source.before(),
         live,
-        starts,
-        ranks,
+        starts: source.starts(live, start),
+        ranks: source.ranks(),
     }
 }

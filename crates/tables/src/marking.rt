@@ -3,24 +3,8 @@ ghost use Rattle.bitset.specs.Bits.{Has};
 ghost use Rattle.derivations.specs.Steps.{Adds};
 ghost use Rattle.tables.specs.Sets.{Marked};
 
+use bitset::cells::mark;
 use bitset::contains;
-
-// Puts the place d into the set of number x.
-pub(crate) fn mark(cells: &mut [u64], x: usize, d: usize)
-    requires { (2 * x + 1 < length cells.old) × (d < 128) }
-    ensures { Adds (Marked cells.old) (Marked cells.new) (λ y e. (y ≡ x) × (e ≡ d)) }
-{
-    cells[2 * x + d / 64] |= 1 << (d % 64);
-}
-
-// Whether the place d is in the set of number x.
-pub(crate) fn is_marked(cells: &[u64], x: usize, d: usize) -> bool
-    requires { (2 * x + 1 < length cells.now) × (d < 128) }
-    ensures yes { result ≡ true → Marked cells.now x d }
-    ensures no { result ≡ false → ¬ Marked cells.now x d }
-{
-    (cells[2 * x + d / 64] >> (d % 64)) & 1 == 1
-}
 
 // Puts the place d into the set of number x, if the numbers have x.
 fn mark_in(cells: &mut [u64], numbers: u32, x: usize, d: usize)

@@ -1,12 +1,18 @@
-ghost use Rattle.std.specs.Prelude.{◌≡◌, ◌≤◌, length, slice_index};
+ghost use Rattle.std.specs.Prelude.{◌≡◌, ℕ, ◌≤◌, length, slice_index};
 ghost use Rattle.grammar.specs.Grammar.{places};
 ghost use Rattle.grammar.specs.Model.{productions as productions_of};
+ghost use Rattle.grammar.specs.Sound.{WellFormed};
+ghost use Rattle.derivations.specs.Ranges.{Numbers};
 ghost use Rattle.tables.specs.Places.{Firsts, Lasts};
+ghost use Rattle.tables.specs.Stored.{grammar_of};
 
+use crate::source::Source;
+use derivations::above;
 use grammar::production::Production;
+use grammar::rule::Rule;
 
 // The first place of each production.
-pub(crate) fn firsts(productions: &[Production]) -> [u8; 32]
+fn firsts(productions: &[Production]) -> [u8; 32]
     requires few { length productions.now ≤ 32 }
     requires small { places (productions_of productions.now) ≤ 128 }
     ensures whole { length result ≡ 32 }
@@ -17,23 +23,37 @@ pub(crate) fn firsts(productions: &[Production]) -> [u8; 32]
     let mut place = 0;
     for (i, p) in productions.iter().enumerate() {
         first[i] = place as u8;
-        place += p.right().len() + 1;
+        place += p.places();
     }
     first
 }
 
-// The last place of each production.
-pub(crate) fn lasts(productions: &[Production], first: &[u8]) -> [u8; 32]
-    requires few { length productions.now ≤ 32 }
-    requires small { places (productions_of productions.now) ≤ 128 }
-    requires begins { Firsts (productions_of productions.now) first.now }
-    requires long { length productions.now ≤ length first.now }
-    ensures whole { length result ≡ 32 }
-    ensures each { Lasts (productions_of productions.now) result }
-{
-    let mut last = [0u8; 32];
-    for (i, p) in productions.iter().enumerate() {
-        last[i] = first[i] + p.right().len() as u8;
+impl<'p, 'r> Source<'p, 'r> {
+    // The source of the tables of a grammar.
+    pub(crate) fn new(productions: &'p [Production], rules: &'r [Rule]) -> Source<'p, 'r>
+        requires formed { (start : ℕ) × WellFormed (grammar_of start productions.now rules.now) }
+        requires numbers { Numbers rules.now }
+        ensures productions { result.productions.now ≡ productions.now }
+        ensures rules { result.rules.now ≡ rules.now }
+        ensures zero { slice_index result.first 0 ≡ 0 }
+    {
+        Source {
+            productions,
+            rules,
+            order: above(rules),
+            first: firsts(productions),
+        }
     }
-    last
+
+    // The last place of each production.
+    pub(crate) fn lasts(&self) -> [u8; 32]
+        ensures whole { length result ≡ 32 }
+        ensures each { Lasts (productions_of self.now.productions.now) result }
+    {
+        let mut last = [0u8; 32];
+        for (i, p) in self.productions.iter().enumerate() {
+            last[i] = self.first[i] + p.right().len() as u8;
+        }
+        last
+    }
 }

@@ -1,13 +1,11 @@
 ghost use Rattle.std.specs.Prelude.{◌≡◌, ℕ, ◌<◌, ◌≤◌, length, slice_index};
 ghost use Rattle.grammar.specs.Derivations.{Leads};
 ghost use Rattle.grammar.specs.Model.{productions as productions_of};
-ghost use Rattle.grammar.specs.Sound.{Acyclic};
-ghost use Rattle.derivations.specs.Ranges.{Lefts};
 ghost use Rattle.tables.specs.Ranks.{count_below, row_of};
 
+use crate::source::Source;
 use bitset::rows::Rows;
 use derivations::leads;
-use grammar::production::Production;
 
 // How many nonterminals the nonterminal is related to.
 fn rank(rows: &Rows, symbol: usize) -> u8
@@ -22,19 +20,21 @@ fn rank(rows: &Rows, symbol: usize) -> u8
     count
 }
 
-// The rank of each nonterminal: the number of nonterminals that it leads to, in one step or more.
-pub(crate) fn ranks(productions: &[Production]) -> [u8; 16]
-    requires lefts { Lefts (productions_of productions.now) }
-    requires acyclic { Acyclic (productions_of productions.now) }
-    ensures whole { length result ≡ 16 }
-    ensures falls { (A B : ℕ) → Leads (productions_of productions.now) A B → slice_index result B < slice_index result A }
-    ensures small { (A : ℕ) → slice_index result A ≤ 16 }
-{
-    let mut rows = leads(productions);
-    rows.close();
-    let mut ranks = [0u8; 16];
-    for symbol in 0..16 {
-        ranks[symbol] = rank(&rows, symbol);
+impl Source<'_, '_> {
+    // The rank of each nonterminal: the number of nonterminals that it leads to, in one step or more.
+    pub(crate) fn ranks(&self) -> [u8; 16]
+        ensures whole { length result ≡ 16 }
+        ensures falls { (A B : ℕ) →
+            Leads (productions_of self.now.productions.now) A B →
+            slice_index result B < slice_index result A }
+        ensures small { (A : ℕ) → slice_index result A ≤ 16 }
+    {
+        let mut rows = leads(self.productions);
+        rows.close();
+        let mut ranks = [0u8; 16];
+        for symbol in 0..16 {
+            ranks[symbol] = rank(&rows, symbol);
+        }
+        ranks
     }
-    ranks
 }

@@ -3,6 +3,7 @@ ghost use Rattle.grammar.specs.Grammar.{places};
 ghost use Rattle.grammar.specs.Model.{production, productions as model};
 
 use super::Production;
+use crate::bytes::Bytes;
 
 impl Production {
     // The production of this nonterminal with nothing on its right.
@@ -11,8 +12,7 @@ impl Production {
     {
         Production {
             left,
-            right: [0; 6],
-            len: 0,
+            right: Bytes::empty(),
             price,
         }
     }
@@ -22,18 +22,8 @@ impl Production {
         ensures { MatchOption result (6 < length right.now)
             (λ p. production p ≡ record { left = left; right = right.now; price = price }) }
     {
-        let len = right.len();
-        if len > 6 {
-            return None;
-        }
-        let mut symbols = [0; 6];
-        symbols[..len].copy_from_slice(right);
-        Some(Production {
-            left,
-            right: symbols,
-            len,
-            price,
-        })
+        let right = Bytes::from_slice(right)?;
+        Some(Production { left, right, price })
     }
 
     // The left nonterminal.
@@ -47,7 +37,7 @@ impl Production {
     pub fn right(&self) -> &[u8]
         ensures { result.now ≡ (production self.now).right }
     {
-        &self.right[0..self.len]
+        self.right.as_slice()
     }
 
     // The price.
@@ -56,12 +46,13 @@ impl Production {
     {
         self.price
     }
+
     // How many places for the dot the right side has: one more than symbols.
     pub fn places(&self) -> usize
         ensures value { result ≡ length (production self.now).right + 1 }
         ensures few { result ≤ 7 }
     {
-        self.len + 1
+        self.right.len() + 1
     }
 }
 

@@ -1,27 +1,20 @@
-use Rattle.std.proofs.Common.{refl}
-use Rattle.listing.specs.declared.sources.Sources.{Sources}
-use Rattle.listing.proofs.Roots.{no_sentence, listed}
+use Rattle.std.proofs.Common.{◌≡◌, ◌∙◌, ap}
+use Rattle.std.proofs.lemmas.Result.{err_from_is_err_and}
+use Rattle.std.specs.Option.{ok_or}
+use Rattle.grammar.specs.declared.refusals.ReadingRefusal.TheVariants.{NoSentence}
+use Rattle.listing.proofs.Roots.{none_listed, some_listed}
 use Rattle.listing.proofs.list.Goals as goal
 
-pub returns-in-None : goal.returns-in-None
-returns-in-None c =
-    let s : Sources = record { tables = c.args.tables; productions = c.args.productions; words = c.args.words; cells = c.args.cells } in
-    record {
-      size = refl;
-      listed = λ g means same formed charted. (
-        no_sentence s g (record { means = means; same = same; formed = formed; charted = charted })
-            (c.requires.long, c.requires.few, c.requires.counted) c.in-None.ensures,
-        refl,
-      );
-    }
+pub returns-in_err-root-clause-listed : goal.returns-in_err-root-clause-listed
+returns-in_err-root-clause-listed c g means same formed charted =
+    let none = c.in_err-root.ensures.ok_part in
+    let v = c.in_err-root.ensures.value ∙ ap (λ o. ok_or o NoSentence) none in
+    let is : c.in_err-root.field-0.0 ≡ NoSentence = cc in
+    let r = err_from_is_err_and c.from_residual.result c.from_residual.ensures.1 in
+    rw (r.1, r.2, is)
+    (none_listed g (record { means = means; same = same; formed = formed; charted = charted }) c.root.ensures c.args.records.now none)
 
-pub returns-in-Some : goal.returns-in-Some
-returns-in-Some c =
-    let s : Sources = record { tables = c.args.tables; productions = c.args.productions; words = c.args.words; cells = c.args.cells } in
-    record {
-      size = c.list_node.auto.records;
-      listed = λ g means same formed charted.
-          listed s g (record { means = means; same = same; formed = formed; charted = charted })
-          (c.requires.long, c.requires.few, c.requires.counted) c.in-Some.production c.in-Some.ensures c.args.records.now
-          c.list_node.new.records c.list_node.result (c.list_node.ensures g);
-    }
+pub returns-clause-listed : goal.returns-clause-listed
+returns-clause-listed c g means same formed charted =
+    some_listed g (record { means = means; same = same; formed = formed; charted = charted }) c.root.ensures c.in_ok-root.root c.args.records.now
+    c.list.new.records c.list.result c.in_ok-root.ensures.ok_part (c.list.ensures.listed g)

@@ -1,98 +1,51 @@
-use Rattle.std.proofs.Common.{ℕ, ◌<◌, ◌≤◌, List, length, get_or, sym, arith}
+use Rattle.std.proofs.Common.{◌≡◌, length, sym, ap, ◌∙◌, arith}
 use Rattle.std.proofs.lemmas.List.{length-map}
-use Rattle.grammar.specs.declared.production.Production.{Production as Stored}
 use Rattle.grammar.specs.Model.{production, productions, rules}
-use Rattle.tables.proofs.Building.{means}
+use Rattle.tables.proofs.Building.{means, means_same}
 use Rattle.tables.proofs.Counting.{known_at, last_low}
 use Rattle.tables.proofs.build.Goals as goal
 
--- few stored productions
-few : (ps : List Stored) → length (productions ps) ≤ 32 → length ps ≤ 32
-few ps h = omega (arith, length-map ps production)
-
-pub firsts-first-requires : goal.firsts-first-requires
-firsts-first-requires c = record { few = few c.args.productions.now c.requires.formed.small.0; small = c.requires.formed.small.1 }
-
-pub lasts-last-requires : goal.lasts-last-requires
-lasts-last-requires c =
-    let n = few c.args.productions.now c.requires.formed.small.0 in
-    record {
-      few = n;
-      small = c.requires.formed.small.1;
-      begins = c.firsts-first.ensures.each;
-      long = omega (arith, n, c.firsts-first.ensures.whole);
-    }
-
-pub waits-waits-requires : goal.waits-waits-requires
-waits-waits-requires c =
-    let n = few c.args.productions.now c.requires.formed.small.0 in
-    record {
-      numbers = c.requires.numbers;
-      order = c.above-order.ensures;
-      lefts = λ k l. (c.requires.formed.sides k l).0;
-      few = n;
-      small = c.requires.formed.small.1;
-      begins = c.firsts-first.ensures.each;
-      long = omega (arith, n, c.firsts-first.ensures.whole);
-    }
-
-pub before-before-requires : goal.before-before-requires
-before-before-requires c =
-    let n = few c.args.productions.now c.requires.formed.small.0 in
-    record {
-      symbols = c.requires.formed.symbols;
-      small = c.requires.formed.small.1;
-      begins = c.firsts-first.ensures.each;
-      long = omega (arith, n, c.firsts-first.ensures.whole);
-    }
-
-pub live-live-requires : goal.live-live-requires
-live-live-requires c =
-    let n = few c.args.productions.now c.requires.formed.small.0 in
-    record {
-      few = n;
-      small = c.requires.formed.small.1;
-      symbols = c.requires.formed.symbols;
-      begins = c.firsts-first.ensures.each;
-      long = (omega (arith, n, c.firsts-first.ensures.whole), omega (arith, c.waits-waits.ensures.whole));
-    }
-
-pub starts-starts-requires : goal.starts-starts-requires
-starts-starts-requires c = record { few = few c.args.productions.now c.requires.formed.small.0 }
+pub new-source-requires : goal.new-source-requires
+new-source-requires c = record { formed = (c.args.start, c.requires.formed); numbers = c.requires.numbers }
 
 pub invariant_of-result : goal.invariant_of-result
 invariant_of-result c =
-    let ps = c.args.productions.now in
-    let low : (k : ℕ) → k < length ps → get_or c.firsts-first.result k 0 < 128 =
-    λ k l. omega (arith, c.firsts-first.ensures.each k (known_at ps k l), last_low (productions ps) k (known_at ps k l), c.requires.formed.small.1) in
-    let high : (k : ℕ) → k < length ps → get_or c.lasts-last.result k 0 < 128 =
-    λ k l. omega (arith, c.lasts-last.ensures.each k (known_at ps k l), last_low (productions ps) k (known_at ps k l), c.requires.formed.small.1) in
+    let source = c.new-source.result in
+    let ps = source.productions.now in
+    let size : length ps ≡ length c.args.productions.now = ap length c.new-source.ensures.productions in
     record {
-      few = few ps c.requires.formed.small.0;
-      firsts = c.firsts-first.ensures.whole;
-      lasts = c.lasts-last.ensures.whole;
+      few = omega (arith, size, source.few);
+      firsts = source.whole;
+      lasts = c.lasts.ensures.whole;
       waiting = c.waits-waits.ensures.whole;
-      kinds = c.before-before.ensures.whole;
-      ranked = c.ranks-ranks.ensures.whole;
-      low = low;
-      high = high;
+      kinds = c.before-2.ensures.whole;
+      ranked = c.ranks.ensures.whole;
+      low = λ k l.
+          let known = known_at ps k (omega (arith, l, size)) in
+          omega (arith, source.begins k known, last_low (productions ps) k known, source.small);
+      high = λ k l.
+          let known = known_at ps k (omega (arith, l, size)) in
+          omega (arith, c.lasts.ensures.each k known, last_low (productions ps) k known, source.small);
     }
 
 pub returns : goal.returns
 returns c =
-    let ps = c.args.productions.now in
+    let source = c.new-source.result in
+    let ps = source.productions.now in
+    let rs = source.rules.now in
     let start = c.args.start in
-    means _ _
+    means_same _ start ps c.args.productions.now rs c.args.rules.now c.new-source.ensures.productions c.new-source.ensures.rules
+    (means _ _
     (record {
-      known = sym (length-map ps production);
-      small = c.requires.formed.small.1;
-      zero = c.firsts-first.ensures.zero;
-      firsts = c.firsts-first.ensures.each;
-      lasts = c.lasts-last.ensures.each;
+      known = sym (ap length c.new-source.ensures.productions) ∙ sym (length-map ps production);
+      small = source.small;
+      zero = c.new-source.ensures.zero;
+      firsts = source.begins;
+      lasts = c.lasts.ensures.each;
       waits = c.waits-waits.ensures.holds start;
-      before = c.before-before.ensures.holds;
-      live = c.live-live.ensures (rules c.args.rules.now) start (c.waits-waits.ensures.holds start);
-      starts = c.starts-starts.ensures;
-      ranks = c.ranks-ranks.ensures.falls;
-      ranks_small = c.ranks-ranks.ensures.small;
-    })
+      before = c.before-2.ensures.holds;
+      live = c.live-live.ensures (rules rs) start (c.waits-waits.ensures.holds start);
+      starts = c.starts.ensures;
+      ranks = c.ranks.ensures.falls;
+      ranks_small = c.ranks.ensures.small;
+    }))

@@ -1,39 +1,34 @@
-use Rattle.std.proofs.Common.{sym, refl, subst, arith, below_more}
+use Rattle.std.proofs.Common.{◌<◌, length, sym, subst, arith, rules as rule_steps, tests}
+use Rattle.std.proofs.lemmas.Bool.{MatchBool-at_true, MatchBool-at_false}
+use Rattle.std.proofs.lemmas.Iterator.{cases_from_any, YieldsList-from_slice}
 use Rattle.std.proofs.lemmas.List.{get_or-map, length-map}
-use Rattle.std.proofs.lemmas.Bool.{true≢false, false≢true}
+use Rattle.grammar.specs.declared.rule.Relation.TheVariants.{Priority}
+use Rattle.grammar.specs.declared.rule.Rule.{Rule as Numbered}
 use Rattle.grammar.specs.Grammar.{Rule, no_rule}
 use Rattle.grammar.specs.Model.{rule, rules}
 use Rattle.tables.specs.Conflicts.{Relates}
 use Rattle.tables.proofs.Relating.{beside_at, at_beside}
 use Rattle.tables.proofs.conflicts.beside.Goals as goal
 
-pub returns-then-relates : goal.returns-then-relates
-returns-then-relates c =
-    let rs = c.args.rules.now in
-    let i = c.loop-rule.rule-index in
-    let l = c.loop-rule-test.true in
-    record {
-      yes = λ _.
-          beside_at (rules rs) c.args.p c.args.relation c.args.q i (omega (arith, l, length-map rs rule))
-          (subst (λ (r : Rule). Relates r c.args.p c.args.relation c.args.q) (sym (get_or-map rule rs i _ no_rule l))
-          (c.if-relates.ensures.yes refl));
-      no = λ t. absurd (true≢false t);
-    }
-
-pub loop-rule-preserved : goal.loop-rule-preserved
-loop-rule-preserved c =
-    let rs = c.args.rules.now in
-    below_more _ _ c.loop-rule.invariant
-    (λ h.
-    c.if-relates.ensures.no refl
-    (subst (λ (r : Rule). Relates r c.args.p c.args.relation c.args.q) (get_or-map rule rs c.loop-rule.rule-index _ no_rule c.loop-rule-test.true) h))
+none : Numbered
+none = record { upper = 0; relation = Priority; lower = 0 }
 
 pub returns : goal.returns
 returns c =
     let rs = c.args.rules.now in
+    let p = c.args.p in
+    let relation = c.args.relation in
+    let q = c.args.q in
+    let P : Rule → Type 0 = λ r. Relates r p relation q in
+    let found =
+    cases_from_any _ _ _ (λ x. Relates (rule x) p relation q) (λ x. ¬ Relates (rule x) p relation q) c.any.ensures.ran (YieldsList-from_slice rs c.iter.ensures.rest)
+    (λ x f k. search (rule_steps, tests)) (λ x f k. search (rule_steps, tests)) in
     record {
-      yes = λ t. absurd (false≢true t);
-      no = λ _ h.
-          let found = at_beside (rules rs) c.args.p c.args.relation c.args.q h in
-          c.loop-rule.invariant found.0 (omega (arith, found.1, length-map rs rule)) found.2;
+      yes = λ t.
+          let k = MatchBool-at_true _ _ t found in
+          beside_at (rules rs) p relation q k.0 (omega (arith, k.1, length-map rs rule)) (subst P (sym (get_or-map rule rs k.0 none no_rule k.1)) (k.2 none));
+      no = λ f h.
+          let k = at_beside (rules rs) p relation q h in
+          let l : k.0 < length rs = omega (arith, k.1, length-map rs rule) in
+          MatchBool-at_false _ _ f found k.0 none (omega arith) l (subst P (get_or-map rule rs k.0 none no_rule l) k.2);
     }

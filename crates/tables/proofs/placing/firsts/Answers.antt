@@ -1,10 +1,11 @@
-use Rattle.std.proofs.Common.{◌≡◌, ◌≢◌, length, get_or, set, ap, ◌∙◌, ⊎_elim, arith}
+use Rattle.std.proofs.Common.{◌≡◌, ◌+◌, ◌≢◌, length, get_or, set, ap, ◌∙◌, ⊎_elim, arith}
 use Rattle.std.proofs.lemmas.List.{length-set, get_or-set_same, get_or-set_other}
 use Rattle.std.proofs.lemmas.Bool.{cases_eq}
-use Rattle.grammar.specs.Grammar.{right_at}
+use Rattle.grammar.specs.Grammar.{Production, right_at}
+use Rattle.derivations.proofs.Elements.{is_at}
 use Rattle.grammar.specs.Model.{productions}
 use Rattle.tables.specs.Places.{first_place}
-use Rattle.tables.proofs.Counting.{set_more, place_next, last_low, right_is, known_at, stored_at}
+use Rattle.tables.proofs.Counting.{set_more, place_next, last_low, known_at, stored_at}
 use Rattle.tables.proofs.placing.firsts.Goals as goal
 
 pub overflow_cast-first : goal.overflow_cast-first
@@ -12,15 +13,11 @@ overflow_cast-first c =
     let ps = c.args.productions.now in
     omega (arith, last_low (productions ps) c.loop-i.i (known_at ps c.loop-i.i c.loop-i-test.true), c.requires.small, c.loop-i.invariant.1)
 
--- the right side that was read
-size : (c : goal.After-right) → length c.right.result.now ≡ length (right_at (productions c.args.productions.now) c.loop-i.i)
+-- the places of the production that was read
+size : (c : goal.After-places-place) → c.places-place.result ≡ length (right_at (productions c.args.productions.now) c.loop-i.i) + 1
 size c =
-    ap length (right_is c.args.productions.now c.loop-i.i c.index-productions-i.result c.loop-i-test.true c.index-productions-i.is _ c.right.ensures)
-
-pub overflow_add-place-in-loop-i : goal.overflow_add-place-in-loop-i
-overflow_add-place-in-loop-i c =
     let ps = c.args.productions.now in
-    omega (arith, last_low (productions ps) c.loop-i.i (known_at ps c.loop-i.i c.loop-i-test.true), c.requires.small, c.loop-i.invariant.1, size c)
+    omega (arith, c.places-place.ensures.value, ap (λ (p : Production). length p.right) (is_at ps c.loop-i.i c.index-productions-i.result c.loop-i-test.true c.index-productions-i.is))
 
 pub loop-i-preserved : goal.loop-i-preserved
 loop-i-preserved c =

@@ -3,7 +3,7 @@ use Rattle.std.proofs.lemmas.Iterator.Adapters.{fits_from_length, at_most_from_y
 use Rattle.std.proofs.lemmas.Iterator.{YieldsList-from_slice}
 use Rattle.grammar.proofs.production.methods.place_count.Goals as goal
 
--- the slice is too short for the sum to overflow: a production takes 24 bytes and has at most seven places
+-- the slice is too short for the sum to overflow: a production takes 32 bytes and has at most seven places
 pub sum-requires-clause-fits : goal.sum-requires-clause-fits
 sum-requires-clause-fits c =
     let short = c.well_formed.0.1 in

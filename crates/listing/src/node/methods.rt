@@ -1,0 +1,64 @@
+ghost use Rattle.std.specs.Prelude.{◌≡◌, ℕ, ◌+◌, ◌<◌, ◌≤◌, true, false, length};
+ghost use Rattle.bitset.specs.Bits.{Has};
+ghost use Rattle.listing.specs.Asked.{right_in, Whole, rank_in, weight as weight_of, RowsFrom};
+
+use super::Node;
+use crate::positions::with;
+use crate::slot::Slot;
+use chart::items::has;
+
+impl<'a> Node<'a> {
+    // The right side of its production.
+    pub(crate) fn right(&self) -> &'a [u8]
+        ensures is { result.now ≡ right_in self.now.sources self.now.production }
+        ensures short { length result.now ≤ 6 }
+    {
+        self.sources.productions[self.production].right()
+    }
+
+    // Whether the chart has it: the complete item of its production over its words.
+    pub(crate) fn is_whole(&self) -> bool
+        ensures yes { result ≡ true → Whole self.now.sources self.now.production self.now.start self.now.end }
+        ensures no { result ≡ false → ¬ Whole self.now.sources self.now.production self.now.start self.now.end }
+    {
+        let last = self.sources.tables.last[self.production] as usize;
+        has(self.sources.cells, self.start, self.end, last)
+    }
+
+    // The rank of the left side of its production, at most 16.
+    fn rank(&self) -> usize
+        ensures { result ≡ rank_in self.now.sources self.now.production }
+    {
+        let left = self.sources.productions[self.production].left() as usize;
+        if left >= 16 {
+            return 0;
+        }
+        (self.sources.tables.ranks[left] as usize).min(16)
+    }
+
+    // What falls from a node to its children: the number of its words, then its rank.
+    pub(crate) fn weight(&self) -> usize
+        ensures { result ≡ weight_of self.now.sources self.now.production self.now.start self.now.end }
+    {
+        (self.end - self.start) * 17 + self.rank()
+    }
+
+    // The rows of the node: for each position of its right side where the symbols from there on can begin.
+    pub(crate) fn rows(&self) -> [u64; 7]
+        ensures whole { length result ≡ 7 }
+        ensures rows { RowsFrom self.now 0 result }
+    {
+        let mut rows = [0; 7];
+        let size = self.right().len();
+        rows[size] = with(0, self.end);
+        for place in (0..size).rev() {
+            let slot = Slot {
+                node: *self,
+                place,
+                next: rows[place + 1],
+            };
+            rows[place] = slot.row();
+        }
+        rows
+    }
+}

@@ -1,0 +1,140 @@
+ghost use Rattle.std.specs.Prelude.{◌≡◌, ℕ, ◌+◌, ◌<◌, ◌≤◌, true, false, MatchOption};
+ghost use Rattle.tables.specs.Meaning.{first_of, Waits};
+ghost use Rattle.listing.specs.Asked.{tables_in, symbol_in, IsNode, Fits, CanBe, FirstEnd, NoEnd, NoChild, FirstChoice, NoChoice, Begun, Opens, InRow, RowIs};
+
+use super::Slot;
+use crate::node::Node;
+use crate::positions::{contains, with};
+use chart::items::has;
+use tables::tables::Tables;
+
+// Whether the place d waits for the production q.
+fn waits(tables: &Tables, q: usize, d: usize) -> bool
+    requires { (q < tables.now.count) × (d < 128) }
+    ensures yes { result ≡ true → Waits tables.now q d }
+    ensures no { result ≡ false → ¬ Waits tables.now q d }
+{
+    (tables.waits[2 * q + d / 64] >> (d % 64)) & 1 == 1
+}
+
+impl<'a> Slot<'a> {
+    // The number of the place, counted over all productions.
+    fn number(&self) -> usize
+        ensures { result ≡ first_of (tables_in self.now.node.sources) self.now.node.production + self.now.place }
+    {
+        self.node.sources.tables.first[self.node.production] as usize + self.place
+    }
+
+    // The symbol at the place.
+    pub(crate) fn symbol(&self) -> u8
+        ensures { result ≡ symbol_in self.now.node.sources self.now.node.production self.now.place }
+    {
+        self.node.right()[self.place]
+    }
+
+    // Whether by the tables the production q may stand at the place.
+    fn fits(&self, q: usize) -> bool
+        requires { q < (tables_in self.now.node.sources).count }
+        ensures yes { result ≡ true → Fits self.now.node.sources self.now.node.production self.now.place q }
+        ensures no { result ≡ false → ¬ Fits self.now.node.sources self.now.node.production self.now.place q }
+    {
+        let number = self.number();
+        number < 128 && waits(self.node.sources.tables, q, number)
+    }
+
+    // The node of the production q from `start` to `end`, if the chart has it whole, it ends where the symbols behind
+    // the place can begin, and it weighs less than the node.
+    fn child(&self, q: usize, start: usize, end: usize) -> Option<Node<'a>>
+        requires { (q < (tables_in self.now.node.sources).count) × ((start ≤ end) × (end ≤ self.now.node.end)) }
+        ensures { MatchOption result (¬ CanBe self.now.node self.now.next q start end)
+            (λ n. IsNode n self.now.node.sources q start × (n.end ≡ end) × CanBe self.now.node self.now.next q start end) }
+    {
+        let child = Node {
+            sources: self.node.sources,
+            production: q,
+            start,
+            end,
+        };
+        let can_be = contains(self.next, end)
+            && child.is_whole()
+            && child.weight() < self.node.weight();
+        can_be.then_some(child)
+    }
+
+    // The node of the production q from `start` on, of the smallest end that it can have.
+    fn first_end(&self, q: usize, start: usize) -> Option<Node<'a>>
+        requires { q < (tables_in self.now.node.sources).count }
+        ensures { MatchOption result (NoEnd self.now.node start self.now.next q)
+            (λ n. IsNode n self.now.node.sources q start × FirstEnd self.now.node start self.now.next q n.end) }
+    {
+        (start..self.node.end + 1).find_map(|end| self.child(q, start, end))
+    }
+
+    // The child of the production q from `start` on, of the smallest end.
+    fn child_of(&self, q: usize, start: usize) -> Option<Node<'a>>
+        requires { q < (tables_in self.now.node.sources).count }
+        ensures { MatchOption result (NoChild self.now.node self.now.place start self.now.next q)
+            (λ n. IsNode n self.now.node.sources q start × Fits self.now.node.sources self.now.node.production self.now.place q
+            × FirstEnd self.now.node start self.now.next q n.end) }
+    {
+        if self.fits(q) {
+            self.first_end(q, start)
+        } else {
+            None
+        }
+    }
+
+    // The child from `start` on, of the smallest production, and for it of the smallest end.
+    pub(crate) fn next_child(&self, start: usize) -> Option<Node<'a>>
+        ensures { MatchOption result (NoChoice self.now.node self.now.place start self.now.next)
+            (λ n. IsNode n self.now.node.sources n.production start × FirstChoice self.now.node self.now.place start self.now.next n.production n.end) }
+    {
+        (0..self.node.sources.tables.count).find_map(|q| self.child_of(q, start))
+    }
+
+    // Whether the symbol at the place can stand from `start` on.
+    fn opens(&self, start: usize) -> bool
+        ensures yes { result ≡ true → Opens self.now.node self.now.place start self.now.next }
+        ensures no { result ≡ false → ¬ Opens self.now.node self.now.place start self.now.next }
+    {
+        let symbol = self.symbol();
+        if symbol < 16 {
+            return self.next_child(start).is_some();
+        }
+        start < self.node.end
+            && self.node.sources.words[start] == symbol
+            && contains(self.next, start + 1)
+    }
+
+    // Whether the chart has the symbols before the place over the words from the node's start to `end`.
+    fn is_reached(&self, end: usize) -> bool
+        requires { end ≤ 48 }
+        ensures yes { result ≡ true → Begun self.now.node.sources self.now.node.production self.now.place self.now.node.start end }
+        ensures no { result ≡ false → ¬ Begun self.now.node.sources self.now.node.production self.now.place self.now.node.start end }
+    {
+        let number = self.number();
+        number < 128 && has(self.node.sources.cells, self.node.start, end, number)
+    }
+
+    // Whether the position is in the row of the place.
+    fn in_row(&self, position: usize) -> bool
+        requires { (self.now.node.start ≤ position) × (position ≤ self.now.node.end) }
+        ensures yes { result ≡ true → InRow self.now.node self.now.place self.now.next position }
+        ensures no { result ≡ false → ¬ InRow self.now.node self.now.place self.now.next position }
+    {
+        self.is_reached(position) && self.opens(position)
+    }
+
+    // The row of the place: the positions where the symbols from there on can begin.
+    pub(crate) fn row(&self) -> u64
+        ensures { RowIs self.now.node self.now.place self.now.next result }
+    {
+        let mut row = 0;
+        for position in self.node.start..self.node.end + 1 {
+            if self.in_row(position) {
+                row = with(row, position);
+            }
+        }
+        row
+    }
+}
