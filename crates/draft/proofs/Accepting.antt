@@ -1,6 +1,6 @@
 -- A draft with one production or one rule more. Assumes nothing.
 use Rattle.std.proofs.Common.{◌≡◌, ℕ, ◌+◌, ◌-◌, ◌<◌, ◌≤◌, ◌≢◌, List, [], ◌∷◌, ◌++◌, length, get_or, take, set, sym, ap, ◌∙◌, subst, inl, arith, below_more}
-use Rattle.std.proofs.lemmas.List.{get_or-set_same, get_or-set_other, get_or-take, length-set, length-take-le}
+use Rattle.std.proofs.lemmas.List.{get_or-set_same, get_or-set_other, get_or-take, length-set, length-take-le, take-set}
 use Rattle.grammar.specs.declared.production.Production.{Production as Stored}
 use Rattle.grammar.specs.declared.rule.Rule.{Rule as Numbered}
 use Rattle.grammar.specs.Grammar.{Production, Rule, Nonterminal, with_production, with_rule}
@@ -30,26 +30,28 @@ well_formed d =
       ordered = d.ordered;
     }
 
-no_less : (n : ℕ) → n - 0 ≡ n
-no_less n = omega arith
-
 module _ (d : Draft) (p : Stored) (room : ¬ NoRoom (model d) (production p)) where
   pub free_place : d.count < 32
   free_place = let n : ¬ (32 ≤ length (model d).productions) = λ h. room (inl h) in omega (arith, counted production d.productions d.count (omega arith))
 
   -- the productions with the new one, as a part of the array
-  pub longer : productions (take (d.count + 1 - 0) (set d.productions d.count p)) ≡ (model d).productions ++ production p ∷ []
+  pub longer : productions (take (d.count + 1) (set d.productions d.count p)) ≡ (model d).productions ++ production p ∷ []
   longer =
-      let l = free_place in
-      ap (λ n. productions (take n (set d.productions d.count p))) (no_less (d.count + 1))
-      ∙ pushed production d.productions d.count p (omega arith)
+      let l = free_place in pushed production d.productions d.count p (omega arith)
 
   pub grown : grammar d.start (set d.productions d.count p) (d.count + 1) d.rules d.ruled ≡ with_production (model d) (production p)
   grown =
       let l = free_place in
       ap (λ (xs : List Production). record { start = d.start; productions = xs; rules = rules (take d.ruled d.rules) }) (pushed production d.productions d.count p (omega arith))
 
-  pub lefts : (¬ OutOfRange (production p)) → Lefts (productions (take (d.count + 1 - 0) (set d.productions d.count p)))
+  -- behind the productions that count one more changes nothing
+  pub unchanged : grammar d.start (set d.productions d.count p) d.count d.rules d.ruled ≡ model d
+  unchanged = ap (λ (ps : List Stored). record { start = d.start; productions = productions ps; rules = rules (take d.ruled d.rules) }) (take-set d.productions d.count p)
+
+  pub still_formed : WellFormed (grammar d.start (set d.productions d.count p) d.count d.rules d.ruled)
+  still_formed = subst WellFormed (sym unchanged) (well_formed d)
+
+  pub lefts : (¬ OutOfRange (production p)) → Lefts (productions (take (d.count + 1) (set d.productions d.count p)))
   lefts range =
       let low : ¬ (15 < (production p).left) = λ h. range (inl h) in
       subst Lefts (sym longer) (each_more (model d).productions (production p) (λ (q : Production). Nonterminal q.left) (λ k h. (d.sides k h).0) (omega arith))
@@ -68,15 +70,21 @@ module _ (d : Draft) (x : Numbered) (up : Names (length (model d).productions) x
   pub free_rule : d.ruled < 64
   free_rule = omega (arith, counted rule d.rules d.ruled (omega arith))
 
-  pub longer_rules : rules (take (d.ruled + 1 - 0) (set d.rules d.ruled x)) ≡ (model d).rules ++ rule x ∷ []
+  pub longer_rules : rules (take (d.ruled + 1) (set d.rules d.ruled x)) ≡ (model d).rules ++ rule x ∷ []
   longer_rules =
-      let l = free_rule in
-      ap (λ n. rules (take n (set d.rules d.ruled x))) (no_less (d.ruled + 1)) ∙ pushed rule d.rules d.ruled x (omega arith)
+      let l = free_rule in pushed rule d.rules d.ruled x (omega arith)
 
   pub grown_rules : grammar d.start d.productions d.count (set d.rules d.ruled x) (d.ruled + 1) ≡ with_rule (model d) (rule x)
   grown_rules =
       let l = free_rule in
       ap (λ (xs : List Rule). record { start = d.start; productions = productions (take d.count d.productions); rules = xs }) (pushed rule d.rules d.ruled x (omega arith))
+
+  -- behind the rules that count one more changes nothing
+  pub unchanged_rules : grammar d.start d.productions d.count (set d.rules d.ruled x) d.ruled ≡ model d
+  unchanged_rules = ap (λ (rs : List Numbered). record { start = d.start; productions = productions (take d.count d.productions); rules = rules rs }) (take-set d.rules d.ruled x)
+
+  pub rules_still_formed : WellFormed (grammar d.start d.productions d.count (set d.rules d.ruled x) d.ruled)
+  rules_still_formed = subst WellFormed (sym unchanged_rules) (well_formed d)
 
   pub numbers_kept : Numbers (set d.rules d.ruled x) (d.ruled + 1) d.count
   numbers_kept =
@@ -84,9 +92,12 @@ module _ (d : Draft) (x : Numbered) (up : Names (length (model d).productions) x
       let n = counted production d.productions d.count (omega arith) in
       numbers_more d.rules d.ruled d.count x (omega arith) d.numbers (up.0, omega (arith, n, up.1)) (low.0, omega (arith, n, low.1))
 
-  pub between : NumbersBetween (take (d.ruled + 1 - 0) (set d.rules d.ruled x))
+  pub numbers_still : Numbers (set d.rules d.ruled x) d.ruled d.count
+  numbers_still k e h = let l = free_rule in numbers_kept k e (omega arith)
+
+  pub between : NumbersBetween (take (d.ruled + 1) (set d.rules d.ruled x))
   between k e h =
       let l = free_rule in
-      let b : k < d.ruled + 1 = omega (arith, length-take-le (d.ruled + 1 - 0) (set d.rules d.ruled x) (omega (arith, length-set d.rules d.ruled x)), h) in
+      let b : k < d.ruled + 1 = omega (arith, length-take-le (d.ruled + 1) (set d.rules d.ruled x) (omega (arith, length-set d.rules d.ruled x)), h) in
       let m = numbers_kept k e b in
-      subst Between (sym (get_or-take (d.ruled + 1 - 0) (set d.rules d.ruled x) k e (omega arith))) (m.0, omega (arith, m.1), m.2, omega (arith, m.3))
+      subst Between (sym (get_or-take (d.ruled + 1) (set d.rules d.ruled x) k e (omega arith))) (m.0, omega (arith, m.1), m.2, omega (arith, m.3))

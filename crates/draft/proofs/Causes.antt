@@ -1,9 +1,10 @@
 -- When no cause below a number applies. Assumes nothing.
-use Rattle.std.proofs.Common.{◌≡◌, ℕ, ◌<◌, ◌≤◌, length, Ok, Err, Result, arith}
+use Rattle.std.proofs.Common.{◌≡◌, ℕ, ◌<◌, ◌≤◌, length, Ok, Err, Result, sym, refl, subst, arith}
 use Rattle.grammar.specs.declared.refusals.DraftRefusal.{DraftRefusal}
+use Rattle.grammar.specs.declared.refusals.DraftRefusal.TheVariants.{NoProduction}
 use Rattle.grammar.specs.declared.rule.Relation.{Relation}
 use Rattle.grammar.specs.Grammar.{Production, Grammar, with_start}
-use Rattle.draft.specs.Calls.{SetsStart, StartCause, start_out_of_range, OutOfRange, TooLong, NoRoom, Repeats, Loops, ProductionCause, symbol_out_of_range, right_too_long, productions_full, sides_repeated, leads_to_itself, RepeatsRule, NamesNone, AboveItself, numbered, RuleCause, rule_repeated, names_no_production, rules_full, above_itself}
+use Rattle.draft.specs.Calls.{SetsStart, StartCause, start_out_of_range, OutOfRange, TooLong, NoRoom, Repeats, Loops, ProductionCause, symbol_out_of_range, right_too_long, productions_full, sides_repeated, leads_to_itself, RepeatsRule, NamesNone, AboveItself, numbered, AddsRule, RuleCause, rule_repeated, names_no_production, rules_full, above_itself}
 
 pub start_none : (symbol m : ℕ) → (1 < m → ¬ (15 < symbol)) → (n : ℕ) → n < m → ¬ StartCause symbol n
 start_none symbol m one n l (start_out_of_range h) = one l h
@@ -65,3 +66,7 @@ module _ (g : Grammar) (upper : ℕ) (relation : Relation) (lower : ℕ) where
   rule_none m e n l (names_no_production h) = e.names l h
   rule_none m e n l (rules_full h) = e.room l h
   rule_none m e n l (above_itself h) = e.above l h
+
+  -- the answer where a number is no production's
+  pub names_refused : (¬ RepeatsRule g upper relation lower) → NamesNone g upper lower → (r : Result ℕ DraftRefusal) → r ≡ Err NoProduction → AddsRule g upper relation lower r g
+  names_refused n a r e = subst (λ x. AddsRule g upper relation lower x g) (sym e) (names_no_production a, rule_none 6 (below_names n), refl)

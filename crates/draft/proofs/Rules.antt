@@ -1,6 +1,7 @@
 -- Stored rules and what they say. Assumes nothing.
-use Rattle.std.proofs.Common.{◌≡◌, ℕ, zero, suc, ◌-◌, ◌<◌, ◌≤◌, ◌⊎◌, List, [], ◌∷◌, length, get_or, take, sym, refl, ap, ◌∙◌, inl, inr, ⊎_elim, arith}
+use Rattle.std.proofs.Common.{◌≡◌, ℕ, zero, suc, ◌-◌, ◌<◌, ◌⊎◌, List, [], ◌∷◌, length, get_or, sym, refl, ap, ◌∙◌, inl, inr, ⊎_elim, arith}
 use mathlib.Core.List.{Memᴰ}
+use Rattle.std.proofs.lemmas.List.{length-map, get_or-map}
 use Rattle.grammar.specs.declared.rule.Relation.{Relation}
 use Rattle.grammar.specs.declared.rule.Relation.TheVariants.{Priority, Left, Right, NonAssoc}
 use Rattle.grammar.specs.declared.rule.Rule.{Rule as Numbered}
@@ -8,7 +9,6 @@ use Rattle.grammar.specs.Grammar.{Rule, no_rule}
 use Rattle.grammar.specs.Model.{rule, rules}
 use Rattle.grammar.specs.Order.{Ruled, Says}
 use Rattle.draft.specs.Stored.{Numbers, SameRule}
-use Rattle.draft.proofs.Tables.{counted, looked}
 
 pub mem_at : {A : Type 0} (xs : List A) (k : ℕ) (d : A) → k < length xs → Memᴰ (get_or xs k d) xs
 mem_at [] k d h = absurd (omega arith)
@@ -51,24 +51,24 @@ lower_of r = r.lower
 abbrev relation_of : Rule → Relation
 relation_of r = r.relation
 
-module _ (xs : List Numbered) (n count : ℕ) (room : n ≤ length xs) (numbers : Numbers xs n count) (upper : ℕ) (relation : Relation) (lower : ℕ) where
+module _ (xs : List Numbered) (count : ℕ) (numbers : Numbers xs (length xs) count) (upper : ℕ) (relation : Relation) (lower : ℕ) where
   -- the rules say it
   abbrev Said : Type 0
-  Said = (p : ℕ) × (q : ℕ) × (upper ≡ suc p) × (lower ≡ suc q) × Says (rules (take n xs)) p relation q
+  Said = (p : ℕ) × (q : ℕ) × (upper ≡ suc p) × (lower ≡ suc q) × Says (rules xs) p relation q
 
-  pub says_it : (i : ℕ) (d : Numbered) → i < n → SameRule (get_or xs i d) upper relation lower → Said
+  pub says_it : (i : ℕ) (d : Numbered) → i < length xs → SameRule (get_or xs i d) upper relation lower → Said
   says_it i d h same =
       let x = get_or xs i d in
       let b = numbers i d h in
-      let m : Memᴰ (rule x) (rules (take n xs)) =
-      mathlib.Core.List.Memᴰ.cast (looked rule xs n i d no_rule h room) (mem_at (rules (take n xs)) i no_rule (omega (arith, counted rule xs n room))) in
+      let m : Memᴰ (rule x) (rules xs) =
+      mathlib.Core.List.Memᴰ.cast (sym (get_or-map rule xs i d no_rule h)) (mem_at (rules xs) i no_rule (omega (arith, length-map xs rule))) in
       ⊎_elim
       (λ (s : (x.upper ≡ upper) × (x.lower ≡ lower)). (
         upper - 1,
         lower - 1,
         omega (arith, b.0, s.0),
         omega (arith, b.2, s.1),
-        says_same (rules (take n xs)) (upper - 1) (lower - 1) relation
+        says_same (rules xs) (upper - 1) (lower - 1) relation
             (mathlib.Core.List.Memᴰ.cast (sym (ap (λ u. record { upper = u - 1; relation = x.relation; lower = x.lower - 1 }) s.0 ∙ ap (λ l. record { upper = upper - 1; relation = x.relation; lower = l - 1 }) s.1 ∙ ap (λ (r : Relation). record { upper = upper - 1; relation = r; lower = lower - 1 }) same.0)) m),
       ))
       (λ (s : (¬ (relation ≡ Priority)) × (x.upper ≡ lower) × (x.lower ≡ upper)). (
@@ -76,22 +76,22 @@ module _ (xs : List Numbered) (n count : ℕ) (room : n ≤ length xs) (numbers 
         lower - 1,
         omega (arith, b.2, s.2),
         omega (arith, b.0, s.1),
-        says_mirrored (rules (take n xs)) (upper - 1) (lower - 1) relation s.0
+        says_mirrored (rules xs) (upper - 1) (lower - 1) relation s.0
             (mathlib.Core.List.Memᴰ.cast (sym (ap (λ u. record { upper = u - 1; relation = x.relation; lower = x.lower - 1 }) s.1 ∙ ap (λ l. record { upper = lower - 1; relation = x.relation; lower = l - 1 }) s.2 ∙ ap (λ (r : Relation). record { upper = lower - 1; relation = r; lower = upper - 1 }) same.0)) m),
       ))
       same.1
 
-  found : (d : Numbered) (p q : ℕ) → Ruled (rules (take n xs)) p relation q → (i : ℕ) × (i < n) × ((get_or xs i d).relation ≡ relation) × ((get_or xs i d).upper ≡ suc p) × ((get_or xs i d).lower ≡ suc q)
+  found : (d : Numbered) (p q : ℕ) → Ruled (rules xs) p relation q → (i : ℕ) × (i < length xs) × ((get_or xs i d).relation ≡ relation) × ((get_or xs i d).upper ≡ suc p) × ((get_or xs i d).lower ≡ suc q)
   found d p q m =
       let r = at_mem no_rule m in
-      let l : r.0 < n = omega (arith, counted rule xs n room, r.1) in
-      let e = looked rule xs n r.0 d no_rule l room ∙ r.2 in
+      let l : r.0 < length xs = omega (arith, length-map xs rule, r.1) in
+      let e = sym (get_or-map rule xs r.0 d no_rule l) ∙ r.2 in
       let b = numbers r.0 d l in
       (r.0, l, ap relation_of e, omega (arith, ap upper_of e, b.0), omega (arith, ap lower_of e, b.2))
 
-  pub said_by : (d : Numbered) → Said → (i : ℕ) × (i < n) × SameRule (get_or xs i d) upper relation lower
+  pub said_by : (d : Numbered) → Said → (i : ℕ) × (i < length xs) × SameRule (get_or xs i d) upper relation lower
   said_by d s =
       ⊎_elim
       (λ m. let f = found d s.0 s.1 m in (f.0, f.1, (f.2, inl (f.3 ∙ sym s.2, f.4 ∙ sym s.3))))
       (λ m. let f = found d s.1 s.0 m.1 in (f.0, f.1, (f.2, inr (m.0, f.3 ∙ sym s.3, f.4 ∙ sym s.2))))
-      (says_cases (rules (take n xs)) s.0 s.1 relation s.4)
+      (says_cases (rules xs) s.0 s.1 relation s.4)

@@ -1,5 +1,5 @@
 -- The first n of an array's elements, each by what it stands for. Assumes nothing.
-use Rattle.std.proofs.Common.{◌≡◌, ℕ, ◌+◌, ◌<◌, ◌≤◌, List, [], ◌∷◌, ◌++◌, map, length, get_or, take, set, sym, ap, ◌∙◌, arith}
+use Rattle.std.proofs.Common.{◌≡◌, ℕ, ◌+◌, ◌<◌, ◌≤◌, List, [], ◌∷◌, ◌++◌, map, length, get_or, take, set, sym, ap, ◌∙◌, subst, arith}
 use Rattle.std.proofs.lemmas.List.{length-map, length-take-le, get_or-map, get_or-take, take_more_set, map_push, map_more, take-map, take-take}
 use Rattle.std.proofs.lemmas.List.Sums.{sum_by_push, sum_by-take-le}
 use Rattle.grammar.specs.declared.production.Production.{Production as Stored}
@@ -16,6 +16,13 @@ module _ {X Y : Type 0} (f : X → Y) (xs : List X) where
 
   pub pushed : (n : ℕ) (x : X) → n < length xs → map f (take (n + 1) (set xs n x)) ≡ map f (take n xs) ++ f x ∷ []
   pushed n x h = ap (map f) (take_more_set xs n x h) ∙ map_push f (take n xs) x
+
+-- what is true of no element of a list is true of none that the elements stand for
+pub none_stands : {X Y : Type 0} (f : X → Y) (P : Y → Type 0) (xs : List X) (e : Y) → ((k : ℕ) (d : X) → k < length xs → ¬ P (f (get_or xs k d))) → (k : ℕ) → k < length (map f xs) → ¬ P (get_or (map f xs) k e)
+none_stands f P [] e none k l p = omega arith
+none_stands f P (x ∷ xs) e none k l p =
+    let h : k < length (x ∷ xs) = omega (arith, length-map (x ∷ xs) f) in
+    none k x h (subst P (get_or-map f (x ∷ xs) k x e h) p)
 
 pub places_more : (ps : List Stored) (i : ℕ) (d : Stored) → i < length ps → places (productions (take (i + 1) ps)) ≡ places (productions (take i ps)) + (length (production (get_or ps i d)).right + 1)
 places_more ps i d h =

@@ -1,6 +1,7 @@
-ghost use Rattle.std.specs.Prelude.{◌≡◌, ℕ, ◌<◌, ◌≤◌, true, false, length, ◌≢◌};
+ghost use Rattle.std.specs.Prelude.{◌≡◌, ℕ, ◌<◌, ◌≤◌, true, false, length, ◌≢◌, MatchResult};
 ghost use Rattle.grammar.specs.Grammar.{empty_grammar};
 ghost use Rattle.grammar.specs.Model.{production};
+ghost use Rattle.grammar.specs.declared.refusals.DraftRefusal.TheVariants.{NoProduction};
 ghost use Rattle.draft.specs.Calls.{
   SetsStart,
   OutOfRange,
@@ -26,15 +27,7 @@ fn in_range(left: u8, right: &[u8]) -> bool
     ensures yes { result ≡ true → ¬ OutOfRange (record { left = left; right = right.now; price = 0 }) }
     ensures no { result ≡ false → OutOfRange (record { left = left; right = right.now; price = 0 }) }
 {
-    if left > 15 {
-        return false;
-    }
-    for symbol in right {
-        if *symbol > 47 {
-            return false;
-        }
-    }
-    true
+    left <= 15 && right.iter().all(|symbol| *symbol <= 47)
 }
 
 // Whether the production has these two sides.
@@ -42,10 +35,7 @@ fn same_sides(p: &Production, left: u8, right: &[u8]) -> bool
     ensures yes { result ≡ true → ((production p.now).left ≡ left) × ((production p.now).right ≡ right.now) }
     ensures no { result ≡ false → (production p.now).left ≡ left → (production p.now).right ≢ right.now }
 {
-    if p.left() != left {
-        return false;
-    }
-    p.right() == right
+    p.left() == left && p.right() == right
 }
 
 // Whether the rule says this of the productions of these numbers; an associativity counts both ways round.
@@ -55,13 +45,9 @@ fn same_rule(rule: &Rule, upper: u16, relation: Relation, lower: u16) -> bool
 {
     let above = u16::from(rule.upper);
     let below = u16::from(rule.lower);
-    if rule.relation != relation {
-        return false;
-    }
-    if above == upper && below == lower {
-        return true;
-    }
-    relation != Relation::Priority && above == lower && below == upper
+    let as_it_stands = above == upper && below == lower;
+    let mirrored = relation != Relation::Priority && above == lower && below == upper;
+    rule.relation == relation && (as_it_stands || mirrored)
 }
 
 impl Draft {
@@ -100,12 +86,9 @@ impl Draft {
         ensures yes { result ≡ true → RepeatsSides (model self.now).productions left right.now }
         ensures no { result ≡ false → ¬ RepeatsSides (model self.now).productions left right.now }
     {
-        for i in 0..self.count {
-            if same_sides(&self.productions[i], left, right) {
-                return true;
-            }
-        }
-        false
+        self.productions()
+            .iter()
+            .any(|production| same_sides(production, left, right))
     }
 
     // Whether the rules say this already.
@@ -113,12 +96,9 @@ impl Draft {
         ensures yes { result ≡ true → RepeatsRule (model self.now) upper relation lower }
         ensures no { result ≡ false → ¬ RepeatsRule (model self.now) upper relation lower }
     {
-        for i in 0..self.ruled {
-            if same_rule(&self.rules[i], upper, relation, lower) {
-                return true;
-            }
-        }
-        false
+        self.rules()
+            .iter()
+            .any(|rule| same_rule(rule, upper, relation, lower))
     }
 
     // Whether there is room for the production and its places.
@@ -126,10 +106,7 @@ impl Draft {
         ensures yes { result ≡ true → ¬ NoRoom (model self.now) (production p.now) }
         ensures no { result ≡ false → NoRoom (model self.now) (production p.now) }
     {
-        if self.count >= 32 {
-            return false;
-        }
-        self.place_count() + p.right().len() + 1 <= 128
+        self.count < 32 && self.place_count() + p.places() <= 128
     }
 
     // Adds a production that is in range, has room and repeats none, unless a nonterminal would then lead to itself.
@@ -140,12 +117,10 @@ impl Draft {
         ensures { AddsProduction (model self.old) (production p) result (model self.new) }
     {
         let at = self.count;
-        let mut productions = self.productions;
-        productions[at] = p;
-        if leads_to_itself(&productions[0..at + 1]) {
+        self.productions[at] = p;
+        if leads_to_itself(&self.productions[..=at]) {
             return Err(DraftRefusal::LeadsToItself);
         }
-        self.productions = productions;
         self.count = at + 1;
         Ok((at + 1) as u8)
     }
@@ -158,9 +133,7 @@ impl Draft {
         if !in_range(left, right) {
             return Err(DraftRefusal::Symbol);
         }
-        let Some(production) = Production::new(left, right, price) else {
-            return Err(DraftRefusal::LongRight);
-        };
+        let production = Production::new(left, right, price).ok_or(DraftRefusal::LongRight)?;
         if !self.has_room(&production) {
             return Err(DraftRefusal::Full);
         }
@@ -179,25 +152,22 @@ impl Draft {
         ensures { AddsRule (model self.old) rule.upper rule.relation rule.lower result (model self.new) }
     {
         let at = self.ruled;
-        let mut rules = self.rules;
-        rules[at] = rule;
-        if above_itself(&rules[0..at + 1]) {
+        self.rules[at] = rule;
+        if above_itself(&self.rules[..=at]) {
             return Err(DraftRefusal::AboveItself);
         }
-        self.rules = rules;
         self.ruled = at + 1;
         Ok((at + 1) as u8)
     }
 
-    // Whether the number is a production's.
-    fn names(&self, number: u16) -> bool
-        ensures yes { result ≡ true → Names (length (model self.now).productions) number }
-        ensures no { result ≡ false → ¬ Names (length (model self.now).productions) number }
+    // The number as rules hold it, if it is a production's.
+    fn named(&self, number: u16) -> Result<u8, DraftRefusal>
+        ensures { MatchResult result (λ n. (n ≡ number) × Names (length (model self.now).productions) n) (λ e. (e ≡ NoProduction) × ¬ Names (length (model self.now).productions) number) }
     {
-        if number == 0 {
-            return false;
+        match u8::try_from(number) {
+            Ok(named) if named > 0 && usize::from(named) <= self.count => Ok(named),
+            _ => Err(DraftRefusal::NoProduction),
         }
-        usize::from(number) <= self.count
     }
 
     // Adds a rule between the productions of two numbers, and answers how many rules there are then.
@@ -212,19 +182,14 @@ impl Draft {
         if self.has_rule(upper, relation, lower) {
             return Err(DraftRefusal::Repeated);
         }
-        if !self.names(upper) {
-            return Err(DraftRefusal::NoProduction);
-        }
-        if !self.names(lower) {
-            return Err(DraftRefusal::NoProduction);
-        }
+        let rule = Rule {
+            upper: self.named(upper)?,
+            relation,
+            lower: self.named(lower)?,
+        };
         if self.ruled >= 64 {
             return Err(DraftRefusal::RulesFull);
         }
-        self.accept_rule(Rule {
-            upper: upper as u8,
-            relation,
-            lower: lower as u8,
-        })
+        self.accept_rule(rule)
     }
 }

@@ -1,11 +1,12 @@
 ghost use Rattle.std.specs.Prelude.{◌≡◌, ℕ, ◌-◌, ◌<◌, true, false, length, MatchOption};
 ghost use Rattle.grammar.specs.Grammar.{places, production_at, rule_at};
-ghost use Rattle.grammar.specs.Model.{production, productions, rule};
+ghost use Rattle.grammar.specs.Model.{production, productions, rule, rules};
 ghost use Rattle.draft.specs.Model.{model};
 ghost use Rattle.draft.specs.Calls.{Names};
+ghost use Rattle.draft.specs.Stored.{Numbers};
 
 use super::Draft;
-use grammar::production::Production;
+use grammar::production::{Production, place_count};
 use grammar::rule::Rule;
 
 impl Draft {
@@ -35,17 +36,23 @@ impl Draft {
         ensures { MatchOption result (¬ Names (length (model self.now).productions) number)
             (λ p. Names (length (model self.now).productions) number × (production p ≡ production_at (model self.now).productions (number - 1))) }
     {
-        if number == 0 || number > self.count {
-            return None;
-        }
-        Some(self.productions[number - 1])
+        let index = number.checked_sub(1)?;
+        self.productions().get(index).copied()
     }
 
     // The productions in the order of acceptance.
     pub fn productions(&self) -> &[Production]
         ensures { productions result.now ≡ (model self.now).productions }
     {
-        &self.productions[0..self.count]
+        &self.productions[..self.count]
+    }
+
+    // The rules in the order of acceptance. Each has the numbers of two productions, which count from 1.
+    pub fn rules(&self) -> &[Rule]
+        ensures rules { rules result.now ≡ (model self.now).rules }
+        ensures numbers { Numbers result.now (length result.now) (length (model self.now).productions) }
+    {
+        &self.rules[..self.ruled]
     }
 
     // The rule of a number, which counts from 1 in the order of acceptance; none where no rule has it.
@@ -53,20 +60,14 @@ impl Draft {
         ensures { MatchOption result (¬ Names (length (model self.now).rules) number)
             (λ x. Names (length (model self.now).rules) number × (rule x ≡ rule_at (model self.now).rules (number - 1)) × (0 < x.upper) × (0 < x.lower)) }
     {
-        if number == 0 || number > self.ruled {
-            return None;
-        }
-        Some(self.rules[number - 1])
+        let index = number.checked_sub(1)?;
+        self.rules().get(index).copied()
     }
 
     // How many places the productions have: one more than symbols on the right, for each.
     pub fn place_count(&self) -> usize
         ensures { result ≡ places (model self.now).productions }
     {
-        let mut count = 0;
-        for i in 0..self.count {
-            count += self.productions[i].right().len() + 1;
-        }
-        count
+        place_count(self.productions())
     }
 }

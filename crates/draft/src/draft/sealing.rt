@@ -10,10 +10,6 @@ impl Draft {
     pub(crate) fn tables(&self) -> Tables
         ensures { Means result (model self.now) }
     {
-        build(
-            self.start,
-            &self.productions[0..self.count],
-            &self.rules[0..self.ruled],
-        )
+        build(self.start, self.productions(), self.rules())
     }
 }

@@ -1,8 +1,9 @@
-use Rattle.std.proofs.Common.{refl, inl, inr, ⊎_elim, arith}
+use Rattle.std.proofs.Common.{length, Err, refl, ap, ◌∙◌, subst, inl, inr, ⊎_elim, arith}
+use Rattle.std.proofs.lemmas.Result.{err_from_is_err_and}
 use Rattle.grammar.specs.Model.{rule}
-use Rattle.draft.specs.Calls.{rule_repeated, names_no_production, rules_full}
+use Rattle.draft.specs.Calls.{Names, rule_repeated, rules_full}
 use Rattle.draft.specs.Model.{model}
-use Rattle.draft.proofs.Causes.{below_repeat, below_names, below_full, rule_none}
+use Rattle.draft.proofs.Causes.{below_repeat, below_full, rule_none, names_refused}
 use Rattle.draft.proofs.Tables.{counted}
 use Rattle.draft.proofs.draft.Draft.add_rule.Goals as goal
 
@@ -11,39 +12,39 @@ returns-then-has_rule c =
     let g = model c.args.self.now in
     (rule_repeated (c.if-has_rule.ensures.yes refl), rule_none g c.args.upper c.args.relation c.args.lower 4 (below_repeat g c.args.upper c.args.relation c.args.lower), refl)
 
-pub returns-then-not-names : goal.returns-then-not-names
-returns-then-not-names c =
-    let g = model c.args.self.now in (
-      names_no_production (inl (c.if-not-names.ensures.no refl)),
-      rule_none g c.args.upper c.args.relation c.args.lower 6 (below_names g c.args.upper c.args.relation c.args.lower (c.if-has_rule.ensures.no refl)),
-      refl,
-    )
+pub returns-in_err-named : goal.returns-in_err-named
+returns-in_err-named c =
+    let r = err_from_is_err_and c.from_residual.result c.from_residual.ensures.1 in
+    let none = c.in_err-named.ensures in
+    names_refused (model c.args.self.now) c.args.upper c.args.relation c.args.lower (c.if-has_rule.ensures.no refl) (inl none.1) _ (r.1 ∙ ap Err (r.2 ∙ none.0))
 
-pub returns-then-not-names-2 : goal.returns-then-not-names-2
-returns-then-not-names-2 c =
-    let g = model c.args.self.now in (
-      names_no_production (inr (c.if-not-names-2.ensures.no refl)),
-      rule_none g c.args.upper c.args.relation c.args.lower 6 (below_names g c.args.upper c.args.relation c.args.lower (c.if-has_rule.ensures.no refl)),
-      refl,
-    )
+pub returns-in_err-named-2 : goal.returns-in_err-named-2
+returns-in_err-named-2 c =
+    let r = err_from_is_err_and c.from_residual-in_err-named-2.result c.from_residual-in_err-named-2.ensures.1 in
+    let none = c.in_err-named-2.ensures in
+    names_refused (model c.args.self.now) c.args.upper c.args.relation c.args.lower (c.if-has_rule.ensures.no refl) (inr none.1) _ (r.1 ∙ ap Err (r.2 ∙ none.0))
 
 pub returns-then-self-ge64 : goal.returns-then-self-ge64
 returns-then-self-ge64 c =
     let d = c.args.self.now in
-    let g = model d in (
+    let g = model d in
+    let up = c.in_ok-named.ensures in
+    let low = c.in_ok-named-2.ensures in (
       rules_full (omega (arith, counted rule d.rules d.ruled (omega arith))),
       rule_none g c.args.upper c.args.relation c.args.lower 7
           (below_full g c.args.upper c.args.relation c.args.lower (c.if-has_rule.ensures.no refl)
-          (λ o. ⊎_elim (λ no. no (c.if-not-names.ensures.yes refl)) (λ no. no (c.if-not-names-2.ensures.yes refl)) o)),
+          (λ o. ⊎_elim (λ no. no (subst (Names (length g.productions)) up.0 up.1)) (λ no. no (subst (Names (length g.productions)) low.0 low.1)) o)),
       refl,
     )
 
 pub accept_rule-requires : goal.accept_rule-requires
 accept_rule-requires c =
     let d = c.args.self.now in
+    let up = c.in_ok-named.ensures in
+    let low = c.in_ok-named-2.ensures in
     record {
-      upper = c.if-not-names.ensures.yes refl;
-      lower = c.if-not-names-2.ensures.yes refl;
+      upper = up.1;
+      lower = low.1;
       room = omega (arith, counted rule d.rules d.ruled (omega arith));
-      fresh = c.if-has_rule.ensures.no refl;
+      fresh = rw (up.0, low.0) (c.if-has_rule.ensures.no refl);
     }
