@@ -1,6 +1,8 @@
 -- A proper part of a set has fewer numbers.
-use Rattle.std.proofs.Common.{◌≡◌, ℕ, zero, suc, ◌+◌, ◌<◌, ◌≤◌, refl, ap, ⊎_elim, add-one, arith}
+use Rattle.std.proofs.Common.{◌≡◌, ℕ, zero, suc, ◌+◌, ◌<◌, ◌≤◌, Bool, cond, eqb, length, refl, ap, ⊎_elim, add-one, arith}
+use Rattle.std.specs.List.{range_with_len, count_by, filter}
 use Rattle.std.proofs.lemmas.Bool.{cases_eq}
+use Rattle.std.proofs.lemmas.List.Sums.{length-filter, sum_by-cons}
 use Rattle.bitset.specs.Bits.{bit, Has}
 use Rattle.tables.specs.Ranks.{count_below}
 
@@ -24,6 +26,28 @@ pub count_small : (set n : ℕ) → count_below set n ≤ n
 unfolding count_below
 count_small set zero = omega arith
 count_small set (suc n) = omega (arith, count_small set n, bit_below set n)
+
+-- what a test that answers whether the set has a number counts
+digit : (n : ℕ) → n < 2 → cond (eqb n 1) 1 0 ≡ n
+digit zero l = refl
+digit (suc zero) l = refl
+digit (suc (suc n)) l = absurd (omega arith)
+
+count_from :
+    (set a n : ℕ) → count_by (λ x. eqb (bit set x) 1) (range_with_len a n) + count_below set a ≡ count_below set (a + n)
+count_from set a zero = let same : a + 0 ≡ a = omega arith in omega (arith, ap (count_below set) same)
+count_from set a (suc n) =
+    let test : ℕ → Bool = λ x. eqb (bit set x) 1 in
+    let first : count_by test (range_with_len a (suc n)) ≡ cond (test a) 1 0 + count_by test (range_with_len (a + 1) n) =
+    sum_by-cons (λ x. cond (test x) 1 0) a (range_with_len (a + 1) n) in
+    let same : a + 1 + n ≡ a + suc n = omega arith in
+    omega (arith, first, count_from set (a + 1) n, count_more set a, digit (bit set a) (bit_below set a), ap (count_below set) same)
+
+pub count_tested : (set n : ℕ) → length (filter (λ x. eqb (bit set x) 1) (range_with_len 0 n)) ≡ count_below set n
+count_tested set n =
+    let same : 0 + n ≡ n = omega arith in
+    omega
+    (arith, length-filter (λ x. eqb (bit set x) 1) (range_with_len 0 n), count_from set 0 n, count_none set, ap (count_below set) same)
 
 module _ (part set : ℕ) (within : (x : ℕ) → Has part x → Has set x) where
   bit_part : (x : ℕ) → bit part x ≤ bit set x

@@ -16,12 +16,7 @@ fn is_filled(waits: &[u64; 64], set: u32, d: usize) -> bool
     ensures yes { result ≡ true → Filled waits.now set d }
     ensures no { result ≡ false → ¬ Filled waits.now set d }
 {
-    for q in 0..32 {
-        if contains(set, q) && is_marked(waits, q, d) {
-            return true;
-        }
-    }
-    false
+    (0..32).any(|q| contains(set, q) && is_marked(waits, q, d))
 }
 
 // Whether each symbol of the right side, whose first place is given, is a kind or filled by the set.
@@ -30,12 +25,7 @@ fn fillable(waits: &[u64; 64], set: u32, right: &[u8], first: usize) -> bool
     ensures yes { result ≡ true → Fillable waits.now set right.now first }
     ensures no { result ≡ false → ¬ Fillable waits.now set right.now first }
 {
-    for (k, symbol) in right.iter().enumerate() {
-        if *symbol < 16 && !is_filled(waits, set, first + k) {
-            return false;
-        }
-    }
-    true
+    right.iter().enumerate().all(|(k, symbol)| *symbol >= 16 || is_filled(waits, set, first + k))
 }
 
 // The set with the production p, if the set fills its right side.

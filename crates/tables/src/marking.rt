@@ -6,22 +6,14 @@ ghost use Rattle.tables.specs.Sets.{Marked};
 use bitset::cells::mark;
 use bitset::contains;
 
-// Puts the place d into the set of number x, if the numbers have x.
-fn mark_in(cells: &mut [u64], numbers: u32, x: usize, d: usize)
-    requires { (2 * x + 1 < length cells.old) × (d < 128) }
-    ensures { Adds (Marked cells.old) (Marked cells.new) (λ y e. (y ≡ x) × Has numbers x × (e ≡ d)) }
-{
-    if contains(numbers, x) {
-        mark(cells, x, d);
-    }
-}
-
 // Puts the place d into the sets of all these numbers.
 pub(crate) fn mark_each(cells: &mut [u64], numbers: u32, d: usize)
     requires { (64 ≤ length cells.old) × (d < 128) }
     ensures { Adds (Marked cells.old) (Marked cells.new) (λ x e. Has numbers x × (e ≡ d)) }
 {
     for x in 0..32 {
-        mark_in(cells, numbers, x, d);
+        if contains(numbers, x) {
+            mark(cells, x, d);
+        }
     }
 }

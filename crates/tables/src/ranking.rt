@@ -11,13 +11,7 @@ use derivations::leads;
 fn rank(rows: &Rows, symbol: usize) -> u8
     ensures { result ≡ count_below (row_of rows.now symbol) 16 }
 {
-    let mut count = 0;
-    for other in 0..16 {
-        if rows.has(symbol, other) {
-            count += 1;
-        }
-    }
-    count
+    (0..16).filter(|other| rows.has(symbol, *other)).count() as u8
 }
 
 impl Source<'_, '_> {

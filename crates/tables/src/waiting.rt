@@ -22,10 +22,7 @@ impl Source<'_, '_> {
             AnyStart (productions_of self.now.productions.now) (rules_of self.now.rules.now) (λ g. ¬ Admits g p k q) }
     {
         let right = self.productions[p].right();
-        if right[k] != self.productions[q].left() {
-            return false;
-        }
-        !self.conflict(p, right.len(), k, q)
+        right[k] == self.productions[q].left() && !self.conflict(p, right.len(), k, q)
     }
 
     // The productions that may stand at position k of the production p.

@@ -48,8 +48,8 @@ impl Rows {
             ↔ (Holds self.old p q ⊎ (Holds self.old p m × Holds self.old m q)) }
     {
         let middle = self.rows[m];
-        for p in 0..32 {
-            self.rows[p] = joined(self.rows[p], m, middle);
+        for row in &mut self.rows {
+            *row = joined(*row, m, middle);
         }
     }
 
@@ -67,11 +67,6 @@ impl Rows {
         ensures yes { result ≡ true → ((p : ℕ) × Holds self.now p p) }
         ensures no { result ≡ false → (p : ℕ) → ¬ Holds self.now p p }
     {
-        for p in 0..32 {
-            if self.has(p, p) {
-                return true;
-            }
-        }
-        false
+        (0..32).any(|p| self.has(p, p))
     }
 }

@@ -1,25 +1,14 @@
-use Rattle.std.proofs.Common.{◌≡◌, sym, refl, subst, arith}
-use Rattle.tables.specs.Ranks.{count_below, row_of}
-use Rattle.tables.proofs.Falling.{bit_none, count_none, count_more, count_small}
+use Rattle.std.proofs.Common.{ℕ, Bool, eqb, refl, ◌∙◌, rules, tests}
+use Rattle.std.proofs.lemmas.Iterator.{YieldsList-from_range}
+use Rattle.std.proofs.lemmas.Iterator.Consumers.{YieldsList-from_filter, count_from_yields_List}
+use Rattle.bitset.specs.Bits.{bit}
+use Rattle.tables.specs.Ranks.{row_of}
+use Rattle.tables.proofs.Falling.{count_tested}
 use Rattle.tables.proofs.ranking.rank.Goals as goal
-use Rattle.tables.proofs.ranking.rank.Goals.{then-has, else-has}
-
-pub loop-other-init : goal.loop-other-init
-loop-other-init c = sym (count_none (row_of c.args.rows.now c.args.symbol))
-
-pub overflow_add-count : goal.overflow_add-count
-overflow_add-count c = omega (arith, count_small (row_of c.args.rows.now c.args.symbol) c.loop-other.other, c.loop-other.invariant)
-
-pub loop-other-preserved : goal.loop-other-preserved
-loop-other-preserved c =
-    let set = row_of c.args.rows.now c.args.symbol in
-    let more = count_more set c.loop-other.other in
-    elim c.if-has.branch [
-      | then-has w ↦ omega (arith, more, c.loop-other.invariant, w.count-is, w.if-has.ensures.yes refl)
-      | else-has w ↦ omega (arith, more, c.loop-other.invariant, w.count-is, bit_none set c.loop-other.other (w.if-has.ensures.no refl))
-    ]
 
 pub returns : goal.returns
 returns c =
-    let all : c.loop-other.other ≡ 16 = omega arith in
-    subst (λ n. c.loop-other.count ≡ count_below (row_of c.args.rows.now c.args.symbol) n) all c.loop-other.invariant
+    let row = row_of c.args.rows.now c.args.symbol in
+    let test : ℕ → Bool = λ q. eqb (bit row q) 1 in
+    count_from_yields_List _ _ c.count.ensures.ran
+    (YieldsList-from_filter _ test (YieldsList-from_range 0 16 16 (cc) refl) c.filter.ensures.closure (λ x r q k. search (rules, tests))) ∙ count_tested row 16
