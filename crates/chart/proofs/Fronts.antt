@@ -1,5 +1,5 @@
 -- A chart in the first cells of a longer list.
-use Rattle.std.proofs.Common.{◌≡◌, ℕ, ◌+◌, ◌-◌, ◌/◌, ◌<◌, ◌≤◌, List, ◌++◌, length, take, drop, get_or, sym, ap, ◌∙◌, arith, length-append, length-drop}
+use Rattle.std.proofs.Common.{◌≡◌, ℕ, ◌+◌, ◌-◌, ◌/◌, ◌<◌, ◌≤◌, List, ◌++◌, length, take, drop, get_or, sym, ap, ◌∙◌, arith}
 use Rattle.std.proofs.lemmas.List.{get_or-take, get_or-drop, get_or_append_left, get_or-append_right}
 use Rattle.grammar.specs.Grammar.{Grammar}
 use Rattle.tables.specs.declared.tables.Tables.{Tables}
@@ -36,11 +36,6 @@ pub charted_whole :
     Charted t g ws front → Charted t g ws (front ++ rest)
 charted_whole t g ws front rest m few long chart =
     charted_alike t g ws front (front ++ rest) m few (λ k l. get_or_append_left front rest 0 k (omega arith)) chart
-
--- the array that is given back has its cells
-pub front_long :
-    (cells front : List ℕ) → 4802 ≤ length cells → length (front ++ drop 4802 cells) ≡ length cells → length front ≡ 4802
-front_long cells front enough same = omega (arith, enough, same, length-append front (drop 4802 cells), length-drop 4802 cells)
 
 pub rest_kept : (cells front : List ℕ) → length front ≡ 4802 → RestKept cells (front ++ drop 4802 cells)
 rest_kept cells front long k l =

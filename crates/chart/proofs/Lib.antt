@@ -1,7 +1,6 @@
 pub mod Digits
 pub mod Pairs
 pub mod Growing
-pub mod Gathering
 pub mod Bounds
 pub mod Places
 pub mod Steady

@@ -11,7 +11,7 @@ use Rattle.chart.specs.Chart.{cell_of, Marked, Sound}
 use Rattle.chart.specs.declared.items.Places.{Places}
 use Rattle.chart.specs.Cells.{Added, Advanced, Seen, Meets}
 use Rattle.chart.specs.Columns.{Outside, Moves, Scanned, Started}
-use Rattle.chart.proofs.Growing.{still, then_grows, kept, same_set}
+use Rattle.chart.proofs.Growing.{then_grows, kept, same_set}
 use Rattle.chart.proofs.Bounds.{item_known, item_dot, item_at}
 use Rattle.chart.proofs.Places.{item_of}
 
@@ -88,9 +88,6 @@ outside_added :
 outside_added t i j q a b r v li lq k o = v.other k (not_outside i j k (first_of t q / 64) li (omega arith) o)
 
 -- ---- steps
-
-pub moves_none : (t : Tables) (j : ℕ) (a : List ℕ) → Moves t j a a false
-moves_none t j a = record { growth = still a; other = λ k h. refl; sound = λ g ws m f. f }
 
 pub moves_then : {t : Tables} {j : ℕ} {a b c : List ℕ} {r s : Bool} → Moves t j a b r → Moves t j b c s → Moves t j a c (r || s)
 moves_then f h = record {

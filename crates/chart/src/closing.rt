@@ -1,4 +1,8 @@
 //! Prediction and completion in a column, until nothing changes.
+//!
+//! Each call tells whether it changed the cells. All of a range are made, so the loops gather the answers by `|=`: `any` would
+//! stop at the first change. The tables, the cells and the column are parameters, since a struct that holds the lent cells would
+//! have to say in every contract that it keeps all three.
 
 ghost use Rattle.std.specs.Prelude.{◌≡◌, ◌+◌, ◌<◌, ◌≤◌, Bool, false, length};
 ghost use Rattle.tables.specs.Meaning.{last_of};
@@ -31,7 +35,7 @@ fn complete_if_whole(t: &Tables, cells: &mut Cells, s: usize, j: usize, q: usize
     ensures moved { Moves t.now j cells.old cells.new result }
     ensures done { result ≡ false → ProductionDone t.now s j cells.new q }
 {
-    has(cells, s, j, t.last[q] as usize) && complete(t, cells, s, j, q)
+    has(cells, s, j, usize::from(t.last[q])) && complete(t, cells, s, j, q)
 }
 
 // Completes the productions that have a complete item from s to j.
@@ -70,7 +74,7 @@ fn predict(t: &Tables, cells: &mut Cells, j: usize, places: Places, q: usize) ->
     ensures moved { Moves t.now j cells.old cells.new result }
     ensures done { Begun t.now j places cells.new q }
 {
-    contains(t.live, q) && places.meets(&t.waits, q) && add(cells, j, j, t.first[q] as usize)
+    contains(t.live, q) && places.meets(&t.waits, q) && add(cells, j, j, usize::from(t.first[q]))
 }
 
 // Predicts every live production that an item of column j waits for.

@@ -15,6 +15,14 @@ pub(crate) struct Places {
     high: u64,
 }
 
+// The number of the set of the items with origin i and end j.
+fn set_of(i: usize, j: usize) -> usize
+    requires { (i ≤ 48) × (j ≤ 48) }
+    ensures { result ≡ 49 * j + i }
+{
+    49 * j + i
+}
+
 impl Places {
     // The set of number x in the cells.
     fn of(cells: &[u64], x: usize) -> Places
@@ -32,7 +40,7 @@ impl Places {
         requires { (i ≤ 48) × (j ≤ 48) }
         ensures { (d : ℕ) → d < 128 → Among result d ↔ Marked cells.now i j d }
     {
-        Places::of(cells, 49 * j + i)
+        Places::of(cells, set_of(i, j))
     }
 
     // The places that are in one of the sets.
@@ -100,7 +108,7 @@ pub fn has(cells: &Cells, i: usize, j: usize, d: usize) -> bool
     ensures yes { result ≡ true → Marked cells.now i j d }
     ensures no { result ≡ false → ¬ Marked cells.now i j d }
 {
-    is_marked(cells, 49 * j + i, d)
+    is_marked(cells, set_of(i, j), d)
 }
 
 // Adds bits to the cell k and tells whether that changed it.
@@ -120,7 +128,7 @@ pub(crate) fn add(cells: &mut Cells, i: usize, j: usize, d: usize) -> bool
     requires inside { (i ≤ 48) × ((j ≤ 48) × (d < 128)) }
     ensures { Added (cell_of i j) d cells.old cells.new result }
 {
-    mark(cells, 49 * j + i, d)
+    mark(cells, set_of(i, j), d)
 }
 
 // Moves the dot over one symbol: for each item with origin i and end s whose place is in the set of number x in the mask,
@@ -137,7 +145,7 @@ pub(crate) fn advance(
     ensures { Advanced (cell_of i j) (cell_of i s) mask.now (2 * x) cells.old cells.new result }
 {
     let moved = Places::at(cells, i, s).and(Places::of(mask, x));
-    !moved.is_empty() && moved.next().join(cells, 49 * j + i)
+    !moved.is_empty() && moved.next().join(cells, set_of(i, j))
 }
 
 // The places of the items of column j, of any origin.

@@ -1,8 +1,8 @@
 //! The Earley chart of a grammar, as sets of bits in cells that the caller lends.
 //!
 //! The item with origin i, end j and the place d is bit d % 64 of the cell 2 * (49 * j + i) + d / 64, and the bit is 1
-//! exactly if the item is derivable from the words.
-//! Kinds are numbered from 0 here: the kind k is the symbol 16 + k.
+//! exactly if the item is derivable from the words. Kinds are numbered from 0 here: the kind k is the
+//! symbol 16 + k.
 
 #![tactic(auto)]
 
@@ -35,12 +35,11 @@ fn add_start(t: &Tables, cells: &mut Cells, p: usize) -> bool
     ensures moved { Moves t.now 0 cells.old cells.new result }
     ensures makes { Has t.now.starts p → Marked cells.new 0 0 (first_of t.now p) }
 {
-    contains(t.starts, p) && add(cells, 0, 0, t.first[p] as usize)
+    contains(t.starts, p) && add(cells, 0, 0, usize::from(t.first[p]))
 }
 
 // Makes the cells the chart of no words.
 pub fn open_chart(t: &Tables, cells: &mut Cells)
-    requires { 4802 ≤ length cells.old }
     ensures { (g : Grammar) → Means t.now g → Charted t.now g [] cells.new }
 {
     clear(cells, 0, CELL_COUNT);
@@ -96,7 +95,7 @@ fn spans(t: &Tables, cells: &Cells, n: usize, q: usize) -> bool
     ensures yes { result ≡ true → Ends t.now n cells.now q }
     ensures no { result ≡ false → ¬ Ends t.now n cells.now q }
 {
-    contains(t.starts, q) && has(cells, 0, n, t.last[q] as usize)
+    contains(t.starts, q) && has(cells, 0, n, usize::from(t.last[q]))
 }
 
 // Whether the n words of the chart are a sentence.

@@ -13,4 +13,4 @@ returns-then-not-is_empty c =
     (λ d l. (
       λ h. let x = (both d l).0 h in ((from d l).0 x.0, (mask d l).0 x.1),
       λ h. (both d l).1 ((from d l).1 h.0, (mask d l).1 h.1),
-    )) c.next.ensures.none c.next.ensures.up c.join.ensures
+    )) c.next.ensures.none c.next.ensures.up (rw c.set_of.ensures at c.join.ensures)

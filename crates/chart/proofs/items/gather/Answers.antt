@@ -1,7 +1,6 @@
-use Rattle.std.proofs.Common.{refl}
+use Rattle.std.proofs.Common.{refl, arith}
 use Rattle.chart.proofs.Pairs.{no_place}
-use Rattle.chart.proofs.Gathering.{gathered_none}
 use Rattle.chart.proofs.items.gather.Goals as goal
 
 pub loop-i-init : goal.loop-i-init
-loop-i-init c = gathered_none c.args.cells.now c.args.j _ (no_place 0 0 refl)
+loop-i-init c = record { all = λ i d l m h. absurd (omega arith); only = λ d l h. absurd (no_place 0 0 refl d l h) }
