@@ -1,4 +1,3 @@
-pub mod Stored
 pub mod Finding
 pub mod Filling
 pub mod Meaning

@@ -15,6 +15,6 @@ loop-position-preserved c =
     let P = InRow slot.node slot.place slot.next in
     elim c.if-in_row.branch [
       | then-in_row w ↦ rw w.row-is (gather_yes P c.loop-position.row w.with-row.result c.loop-position.position c.loop-position.invariant
-          (w.if-in_row.ensures.yes refl) w.with-row.ensures)
+          (w.if-in_row.ensures.yes refl) w.with-row.ensures.holds)
       | else-in_row w ↦ rw w.row-is (gather_no P c.loop-position.row c.loop-position.position c.loop-position.invariant (w.if-in_row.ensures.no refl))
     ]
