@@ -1,4 +1,5 @@
 pub mod Finding
+pub mod Filtering
 pub mod Filling
 pub mod Meaning
 pub mod Writing

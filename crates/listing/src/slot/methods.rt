@@ -120,12 +120,8 @@ impl<'a> Slot<'a> {
     pub(crate) fn row(&self) -> u64
         ensures { RowIs self.now.node self.now.place self.now.next result }
     {
-        let mut row = 0;
-        for position in self.node.start..self.node.end + 1 {
-            if self.in_row(position) {
-                row = with(row, position);
-            }
-        }
-        row
+        (self.node.start..self.node.end + 1)
+            .filter(|position| self.in_row(*position))
+            .fold(0, |row, position| with(row, position))
     }
 }
