@@ -7,31 +7,6 @@ use Rattle.bitset.proofs.Digits.{none_of_zero}
 use Rattle.listing.specs.declared.node.Node.{Node}
 use Rattle.listing.specs.Asked.{right_in, RowIs, RowsFrom}
 
--- the row has the positions below e that have P
-abbrev Gathered : (ℕ → Type 0) → ℕ → ℕ → Type 0
-Gathered P row e = (m : ℕ) → Has row m ↔ ((m < e) × P m)
-
-pub gather_none : (P : ℕ → Type 0) (start : ℕ) → ((m : ℕ) → P m → start ≤ m) → Gathered P 0 start
-gather_none P start low m = ((λ h. absurd (none_of_zero m h)), λ h. let l = low m h.1 in let k = h.0 in absurd (omega arith))
-
-pub gather_yes :
-    (P : ℕ → Type 0) (row grown e : ℕ) →
-    Gathered P row e →
-    P e →
-    ((m : ℕ) → Has grown m ↔ (Has row m ⊎ (m ≡ e))) →
-    Gathered P grown (e + 1)
-gather_yes P row grown e old here more m = (
-  (λ h. elim ((more m).0 h)
-      [ inl was ↦ let r = (old m).0 was in let l = r.0 in (omega arith, r.1) | inr same ↦ (omega arith, subst P (sym same) here) ]),
-  λ h. let l = h.0 in elim (ℕ_discrete m e) [ yes same ↦ (more m).1 (inr same) | no other ↦ (more m).1 (inl ((old m).1 (omega arith, h.1))) ],
-)
-
-pub gather_no : (P : ℕ → Type 0) (row e : ℕ) → Gathered P row e → (¬ P e) → Gathered P row (e + 1)
-gather_no P row e old none m = (
-  (λ h. let r = (old m).0 h in let l = r.0 in (omega arith, r.1)),
-  λ h. let l = h.0 in elim (ℕ_discrete m e) [ yes same ↦ absurd (none (subst P same h.1)) | no other ↦ (old m).1 (omega arith, h.1) ],
-)
-
 -- the row behind the last symbol
 pub rows_begin :
     (n : Node) (blank : List ℕ) (k row : ℕ) →

@@ -1,5 +1,5 @@
-pub mod Stored
 pub mod Finding
+pub mod Filtering
 pub mod Filling
 pub mod Meaning
 pub mod Writing

@@ -165,13 +165,20 @@ module _ (s : Sources) (g : Grammar) (of : OfGrammar s g) where
         k ≡ size_of g p →
         out ≡ overlaid before (entry p i j ∷ xs) →
         n ≡ 1 + length xs →
-        n ≤ length before →
+        n ≤ length out →
         Wrote p i j before (Ok n) out
     done before out n size was count room =
         let r = front_ends front size in
         let all = smallest_of g (words_in s) p i j xs known within r.1 in
-        let n₁ : length (listing i all.0) ≡ suc (length xs) = ap length all.2 in
-        (all.0, all.1, (was ∙ ap (overlaid before) (sym all.2), omega arith, room))
+        let n₁ : length (listing i all.0) ≡ suc (length xs) = ap length all.2 in (
+          all.0,
+          all.1,
+          (
+            was ∙ ap (overlaid before) (sym all.2),
+            omega arith,
+            omega (arith, ap length was, length_overlaid before (entry p i j ∷ xs)),
+          ),
+        )
 
 -- the child that the rows give is the first
 module _

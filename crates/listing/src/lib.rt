@@ -11,7 +11,6 @@ ghost use Rattle.chart.specs.Chart.{Charted};
 ghost use Rattle.listing.specs.Calls.{Listed};
 
 mod node;
-mod positions;
 mod slot;
 mod sources;
 

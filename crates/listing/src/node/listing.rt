@@ -21,6 +21,7 @@ impl Node<'_> {
         let rows = self.rows();
         let mut count = 1;
         let mut start = self.start;
+        // A loop and no fold: each step moves `start`, and a child also `count`, or it ends the listing.
         for (place, symbol) in self.right().iter().enumerate() {
             if *symbol >= 16 {
                 start += 1;

@@ -3,8 +3,8 @@ ghost use Rattle.bitset.specs.Bits.{Has};
 ghost use Rattle.listing.specs.Asked.{right_in, Whole, rank_in, weight as weight_of, RowsFrom};
 
 use super::Node;
-use crate::positions::with;
 use crate::slot::Slot;
+use bitset::with;
 use chart::items::has;
 
 impl<'a> Node<'a> {
@@ -50,7 +50,7 @@ impl<'a> Node<'a> {
     {
         let mut rows = [0; 7];
         let size = self.right().len();
-        rows[size] = with(0, self.end);
+        rows[size] = with(0u64, self.end);
         for place in (0..size).rev() {
             let slot = Slot {
                 node: *self,

@@ -1,21 +1,12 @@
 ghost use Rattle.std.specs.Prelude.{◌≡◌, ℕ, ◌+◌, ◌<◌, ◌≤◌, true, false, MatchOption};
-ghost use Rattle.tables.specs.Meaning.{first_of, Waits};
+ghost use Rattle.tables.specs.Meaning.{first_of};
 ghost use Rattle.listing.specs.Asked.{tables_in, symbol_in, IsNode, Fits, CanBe, FirstEnd, NoEnd, NoChild, FirstChoice, NoChoice, Begun, Opens, InRow, RowIs};
 
 use super::Slot;
 use crate::node::Node;
-use crate::positions::{contains, with};
+use bitset::cells::is_marked;
+use bitset::{contains, with};
 use chart::items::has;
-use tables::tables::Tables;
-
-// Whether the place d waits for the production q.
-fn waits(tables: &Tables, q: usize, d: usize) -> bool
-    requires { (q < tables.now.count) × (d < 128) }
-    ensures yes { result ≡ true → Waits tables.now q d }
-    ensures no { result ≡ false → ¬ Waits tables.now q d }
-{
-    (tables.waits[2 * q + d / 64] >> (d % 64)) & 1 == 1
-}
 
 impl<'a> Slot<'a> {
     // The number of the place, counted over all productions.
@@ -39,7 +30,7 @@ impl<'a> Slot<'a> {
         ensures no { result ≡ false → ¬ Fits self.now.node.sources self.now.node.production self.now.place q }
     {
         let number = self.number();
-        number < 128 && waits(self.node.sources.tables, q, number)
+        number < 128 && is_marked(&self.node.sources.tables.waits, q, number)
     }
 
     // The node of the production q from `start` to `end`, if the chart has it whole, it ends where the symbols behind
@@ -129,12 +120,8 @@ impl<'a> Slot<'a> {
     pub(crate) fn row(&self) -> u64
         ensures { RowIs self.now.node self.now.place self.now.next result }
     {
-        let mut row = 0;
-        for position in self.node.start..self.node.end + 1 {
-            if self.in_row(position) {
-                row = with(row, position);
-            }
-        }
-        row
+        (self.node.start..self.node.end + 1)
+            .filter(|position| self.in_row(*position))
+            .fold(0, |row, position| with(row, position))
     }
 }

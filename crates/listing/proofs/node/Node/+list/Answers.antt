@@ -1,10 +1,10 @@
-use Rattle.std.proofs.Common.{rules, ◌≡◌, ◌<◌, ◌≤◌, [], ◌∷◌, length, get_or, set, refl, ap, ◌∙◌, arith, length-set}
+use Rattle.std.proofs.Common.{rules, ◌≡◌, ◌<◌, ◌≤◌, [], length, get_or, set, refl, ap, ◌∙◌, arith, length-set}
 use Rattle.std.proofs.lemmas.Result.{err_from_is_err_and}
 use Rattle.grammar.specs.Grammar.{right_of, size_of}
 use Rattle.listing_theory.specs.Listings.{entry}
 use Rattle.listing_theory.proofs.Fronts.{front_begins}
 use Rattle.listing.proofs.Meaning.{known_in, size_same, symbol_same}
-use Rattle.listing.proofs.Writing.{length_overlaid, first_written, length_tail}
+use Rattle.listing.proofs.Writing.{first_written, length_tail}
 use Rattle.listing.proofs.Walks.{no_room_at_all, front_word_more, done, front_none, child_stepped, child_broke}
 use Rattle.listing.proofs.node.Node.+list.Goals.{in-Some+in_ok-count, in_default}
 use Rattle.listing.proofs.node.Node.+list.Goals as goal
@@ -98,4 +98,4 @@ returns-clause-listed t c g of item can =
     let i = c.loop-place.invariant.3 g of item can in
     done n.sources g of (known_in n.sources g of n.production n.known) item i.1 c.args.records.now c.loop-place.records c.loop-place.count
     (omega (arith, c.loop-place-test.false, ap length c.right-symbol-items.ensures.is, c.loop-place.auto.place-end, size_same n.sources g of n.production))
-    i.2 i.3 (omega (arith, c.loop-place.invariant.1, ap length i.2, length_overlaid c.args.records.now (entry n.production n.start n.end ∷ i.0)))
+    i.2 i.3 c.loop-place.invariant.1

@@ -1,20 +1,18 @@
-use Rattle.std.proofs.Common.{refl}
+use Rattle.std.proofs.Common.{rules, ℕ, ap, inl, inr, arith}
+use Rattle.std.specs.declared.ops.Range.{Range}
+use Rattle.bitset.proofs.Digits.{none_of_zero}
 use Rattle.listing.specs.Asked.{InRow}
-use Rattle.listing.proofs.Filling.{gather_none, gather_yes, gather_no}
-use Rattle.listing.proofs.slot.Slot.row.Goals.{then-in_row, else-in_row}
+use Rattle.listing.proofs.Filtering.{filtered}
 use Rattle.listing.proofs.slot.Slot.row.Goals as goal
 
-pub loop-position-init : goal.loop-position-init
-loop-position-init c =
+pub returns : goal.returns
+returns c e =
     let slot = c.args.self.now in
-    gather_none (InRow slot.node slot.place slot.next) slot.node.start (λ m h. h.0)
-
-pub loop-position-preserved : goal.loop-position-preserved
-loop-position-preserved c =
-    let slot = c.args.self.now in
-    let P = InRow slot.node slot.place slot.next in
-    elim c.if-in_row.branch [
-      | then-in_row w ↦ rw w.row-is (gather_yes P c.loop-position.row w.with-row.result c.loop-position.position c.loop-position.invariant
-          (w.if-in_row.ensures.yes refl) w.with-row.ensures)
-      | else-in_row w ↦ rw w.row-is (gather_no P c.loop-position.row c.loop-position.position c.loop-position.invariant (w.if-in_row.ensures.no refl))
-    ]
+    let r = c.fold.ensures.ran in
+    let first = ap (λ (x : Range ℕ). x.start) c.filter.ensures.source in
+    let last = ap (λ (x : Range ℕ). x.end) c.filter.ensures.source in
+    let all = filtered _ _ _ _ (InRow slot.node slot.place slot.next) (λ x q h. search rules) (λ x q h. search rules) (λ a x b q h. search rules)
+    r.0 c.filter.result 0 c.fold.result r.1 c.filter.ensures.closure r.2 r.3 e in (
+      (λ has. elim (all.0 has) [ inl none ↦ absurd (none_of_zero e none) | inr in_range ↦ in_range.2 ]),
+      λ row. let low = row.0 in let high = row.1 in all.1 (inr (omega arith, omega arith, row)),
+    )
