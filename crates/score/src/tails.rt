@@ -31,6 +31,7 @@ pub(crate) fn tails(productions: &[Production]) -> [u8; 32]
 {
     let empty = nullable(productions);
     let mut tails = [0u8; 32];
+    // Written by index, since a proof knows nothing of what is written through `iter_mut`.
     for (i, p) in productions.iter().enumerate() {
         tails[i] = tail(p.right(), empty);
     }

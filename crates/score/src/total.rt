@@ -10,6 +10,7 @@ pub(crate) fn total<S: Semiring, F: Fn(usize) -> S>(count: usize, part: F) -> S
         ((k : ℕ) (v : S) → k < count → F.post part k v → v ≡ f k) →
         result ≡ sum_below S.Semiring.scale count f }
 {
+    // A `fold` needs two proofs by hand, that each of its calls is allowed and what they add up to; the loop needs one invariant.
     let mut sum = S::none();
     for k in 0..count {
         sum = sum.plus(part(k));

@@ -11,9 +11,6 @@ use Rattle.score.specs.Filling.{Root}
 use Rattle.score.specs.Filled.{Filled}
 use Rattle.score.proofs.score.Goals as goal
 
-pub tails-requires : goal.tails-requires
-tails-requires g c = record { few = omega (arith, length-map c.args.productions.now production, c.requires.few); lefts = c.requires.lefts }
-
 abbrev Told : {S : Type 0} → Scale S → Input → List S → ℕ → S → Type 0
 Told {S} s x table start v =
     (f : ℕ → S) → ((p : ℕ) → p < length (productions_in x) → Root s x table start p (f p)) → v ≡ sum_below s (length (productions_in x)) f

@@ -48,6 +48,7 @@ impl<'a, 's, S: Semiring> Sums<'a, 's, S> {
         ensures kept { Kept self.old self.new }
         ensures fills { Fills S.Semiring.scale self.old.input.now self.old.table.now self.new.table.now (stage_at span level 0 0) (stage_at span (level + 1) 0 0) }
     {
+        // An entry is found by the number of its production, and the production itself is not needed here.
         for p in 0..self.input.productions.len() {
             self.fill_row(level, p, span);
         }

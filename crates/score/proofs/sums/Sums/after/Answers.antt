@@ -3,16 +3,6 @@ use Rattle.score.proofs.Places.{read_right}
 use Rattle.score.proofs.Splitting.{splits_right}
 use Rattle.score.proofs.sums.Sums.after.Goals as goal
 
-pub after_kind-requires : goal.after_kind-requires
-after_kind-requires g c =
-    let e = c.args.entry in
-    let right = read_right c.args.self.now.input.now.productions.now e.production _ c.requires.inside.0 _ c.right.ensures in
-    record {
-      inside = c.requires.inside;
-      stands = (c.requires.position, ap (λ xs. get_or xs e.dot 0) (sym right));
-      high = c.if-symbol-lt16.false;
-    }
-
 pub returns-then-symbol-lt16 : goal.returns-then-symbol-lt16
 returns-then-symbol-lt16 g c start rs W given right =
     let e = c.args.entry in
