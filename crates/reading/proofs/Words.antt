@@ -1,24 +1,10 @@
 -- The standing words and the causes of refusal. Assumes nothing.
-use Rattle.std.proofs.Common.{◌≡◌, ℕ, ◌+◌, ◌<◌, ◌≤◌, Bool, true, false, ◌↔◌, List, [], ◌∷◌, ◌++◌, length, sym, refl, ap, subst, arith}
-use Rattle.std.proofs.lemmas.List.{length-take-le}
+use Rattle.std.proofs.Common.{◌≡◌, ℕ, ◌+◌, ◌<◌, ◌≤◌, Bool, true, false, ◌↔◌, List, [], ◌∷◌, ◌++◌, length, sym, refl, ap, subst}
 use Rattle.grammar.specs.Grammar.{Grammar, Kind}
 use Rattle.std.proofs.lemmas.Bool.{false≢true}
 use Rattle.theory.specs.Claims.{Viable, Awaited, Accepted, Sentence}
 use Rattle.theory.proofs.Exact.{sentences, viable_kinds}
-use Rattle.reading.specs.declared.reading.Reading.{Reading}
-use Rattle.reading.specs.Readings.{words, Same, Kept}
 use Rattle.reading.specs.Calls.{PutCause, line_full, no_kind, nothing_begins, BackCause, no_word}
-
--- how many words stand
-pub standing : (r : Reading) → length (words r) ≡ r.line.count
-standing r = let f = r.line.few in let w = r.line.room in length-take-le r.line.count r.line.words (omega arith)
-
--- a call that changes nothing
-pub same : (r : Reading) → Same r r
-same r = record { words_same = refl; cells_same = refl }
-
-pub kept : (r : Reading) → Kept r r
-kept r = record { grammar = refl; lent = refl; size = refl; rest = λ k l. refl }
 
 module _ (g : Grammar) (ws : List ℕ) (kind : ℕ) where
   -- of the causes below m each is excluded

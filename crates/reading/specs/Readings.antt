@@ -1,9 +1,10 @@
 -- A reading, and what its calls answer and leave. Assumes nothing.
-use Rattle.std.specs.Prelude.{◌≡◌, ℕ, ◌+◌, ◌*◌, ◌<◌, ◌≤◌, Bool, true, ◌↔◌, List, [], length, take, Ok, Err, Result}
+use Rattle.std.specs.Prelude.{◌≡◌, ℕ, ◌+◌, ◌*◌, ◌<◌, ◌≤◌, Bool, true, ◌↔◌, List, [], length, Ok, Err, Result}
 use Rattle.grammar.specs.declared.refusals.ReadingRefusal.{ReadingRefusal}
 use Rattle.grammar.specs.declared.refusals.ReadingRefusal.TheVariants.{ShortChart}
 use Rattle.grammar.specs.declared.refusals.Refusal.TheVariants.{Reading as Layer}
 use Rattle.grammar.specs.Grammar.{Grammar, places}
+use Rattle.grammar.specs.Bytes.{items}
 use Rattle.grammar.specs.Refusals.{number, Answered}
 use Rattle.bitset.specs.Bits.{Has}
 use Rattle.tables.specs.declared.tables.Tables.{Tables}
@@ -15,12 +16,13 @@ use Rattle.listing.specs.Calls.{Listed as Lists}
 use Rattle.score.specs.Filled.{Filled}
 use Rattle.chart.specs.Chart.{Charted, RestKept}
 use Rattle.draft.specs.Sealed.{sealed_model}
+use Rattle.reading.specs.declared.look.Look.{Look}
 use Rattle.reading.specs.declared.reading.Reading.{Reading}
 use Rattle.reading.specs.Calls.{Puts, TakesBack}
 
 -- the words that stand
 abbrev pub words : Reading → List ℕ
-words r = take r.line.count r.line.words
+words r = items r.line
 
 -- the cells of the chart
 abbrev pub cells : Reading → List ℕ
@@ -76,8 +78,8 @@ pub record Sees (g : Grammar) (ws : List ℕ) (sentence : Bool) (mask : ℕ) : T
   pub whole : (sentence ≡ true) ↔ Sentence g ws
   pub next : (b : ℕ) → b < 32 → Has mask b ↔ ((length ws < 48) × Viable g ws (16 + b))
 
-abbrev pub Looked : Reading → Result (Bool × ℕ) ReadingRefusal → Type 0
-Looked r (Ok x) = Long (cells r) × (Marks r → Sees (grammar_of r) (words r) x.0 x.1)
+abbrev pub Looked : Reading → Result Look ReadingRefusal → Type 0
+Looked r (Ok x) = Long (cells r) × (Marks r → Sees (grammar_of r) (words r) x.sentence x.kinds)
 Looked r (Err e) = (¬ Long (cells r)) × (e ≡ ShortChart)
 
 -- a reading that was opened on a chart: no words stand; a chart that is long enough marks their items, a short one is as it was

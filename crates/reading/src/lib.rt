@@ -2,16 +2,18 @@
 
 #![tactic(auto)]
 
+pub mod look;
 pub mod reading;
-pub mod standing;
 
 ghost use Rattle.std.specs.Prelude.{◌≡◌, true, false};
 ghost use Rattle.reading.specs.Readings.{Long};
+
+use chart::CELL_COUNT;
 
 // Whether the chart is long enough for a reading: 4802 cells.
 pub fn chart_fits(chart: &[u64]) -> bool
     ensures yes { result ≡ true → Long chart.now }
     ensures no { result ≡ false → ¬ Long chart.now }
 {
-    chart.len() >= 4802
+    chart.len() >= CELL_COUNT
 }

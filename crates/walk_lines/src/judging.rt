@@ -16,7 +16,7 @@ fn judge_words(reading: &Reading, tables: &mut ScoreTables, end: usize) -> Verdi
     ensures { (Long (cells reading.now) → Marks reading.now) → WordsJudged reading.now end result }
 {
     let sentence = match reading.look() {
-        Ok((sentence, _)) => sentence,
+        Ok(look) => look.sentence,
         Err(refusal) => {
             return Verdict::Refused {
                 number: refusal.number(),

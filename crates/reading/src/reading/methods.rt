@@ -1,11 +1,13 @@
-ghost use Rattle.std.specs.Prelude.{◌≡◌, length};
-ghost use Rattle.reading.specs.Readings.{Put, TakenFromEnd, Looked, Opened, Listed, Scored, ScoreRefused, without_value, words};
+ghost use Rattle.std.specs.Prelude.{◌≡◌, length, take, MatchResult};
+ghost use Rattle.grammar.specs.declared.refusals.ReadingRefusal.TheVariants.{ShortChart};
+ghost use Rattle.reading.specs.Readings.{Put, TakenFromEnd, Looked, Opened, Listed, Scored, ScoreRefused, Long, without_value, words, cells};
 
 use super::Reading;
-use crate::chart_fits;
-use crate::standing::Standing;
-use chart::{accepts, expected_kinds, open_chart};
+use super::changing::{put_word, take_word};
+use crate::look::Look;
+use chart::{CELL_COUNT, Cells, accepts, expected_kinds, open_chart};
 use draft::sealed::Grammar;
+use grammar::bytes::Bytes;
 use grammar::refusals::ReadingRefusal;
 use listing_theory::record::Record;
 use scales::Semiring;
@@ -17,16 +19,13 @@ impl<'b, 'c> Reading<'b, 'c> {
         ensures grammar { result.grammar.now ≡ grammar.now }
         ensures lent { result.chart.ghost_name ≡ chart.entry.ghost_name }
     {
-        if chart_fits(chart) {
-            open_chart(grammar.tables(), chart);
+        if let Some(cells) = chart.first_chunk_mut::<CELL_COUNT>() {
+            open_chart(grammar.tables(), cells);
         }
         Reading {
             grammar,
             chart,
-            line: Standing {
-                words: [0; 48],
-                count: 0,
-            },
+            line: Bytes::empty(),
         }
     }
 
@@ -34,73 +33,46 @@ impl<'b, 'c> Reading<'b, 'c> {
     pub fn put(&mut self, kind: u8) -> Result<u8, ReadingRefusal>
         ensures { Put self.old kind result self.new }
     {
-        if self.chart.len() < 4802 {
-            return Err(ReadingRefusal::ShortChart);
-        }
-        let at = self.line.count;
-        if at >= 48 {
-            return Err(ReadingRefusal::LineFull);
-        }
-        if kind < 16 {
-            return Err(ReadingRefusal::NoKind);
-        }
-        if kind > 47 {
-            return Err(ReadingRefusal::NoKind);
-        }
-        let tables = self.grammar.tables();
-        if !chart::put(tables, self.chart, at, usize::from(kind - 16)) {
-            return Err(ReadingRefusal::NothingBegins);
-        }
-        self.line.words[at] = kind;
-        self.line.count = at + 1;
-        Ok((at + 1) as u8)
+        put_word(self.grammar.tables(), self.chart, &mut self.line, kind)
     }
 
     // Takes the last word back, and answers how many then stand.
     pub fn take_back(&mut self) -> Result<u8, ReadingRefusal>
         ensures { TakenFromEnd self.old result self.new }
     {
-        if self.chart.len() < 4802 {
-            return Err(ReadingRefusal::ShortChart);
-        }
-        let count = self.line.count;
-        if count == 0 {
-            return Err(ReadingRefusal::NoWord);
-        }
-        chart::take_back(self.chart, count);
-        self.line.count = count - 1;
-        Ok((count - 1) as u8)
+        take_word(self.chart, &mut self.line)
     }
 
-    // Whether the words that stand are a sentence, and which kinds may come next: bit b for the kind 16 + b.
-    pub fn look(&self) -> Result<(bool, u32), ReadingRefusal>
+    // The cells that hold the chart, if there are as many.
+    fn cells(&self) -> Result<&Cells, ReadingRefusal>
+        ensures { MatchResult result (λ chart. Long (cells self.now) × (chart.now ≡ take 4802 (cells self.now))) (λ e. (e ≡ ShortChart) × ¬ Long (cells self.now)) }
+    {
+        self.chart.first_chunk().ok_or(ReadingRefusal::ShortChart)
+    }
+
+    // Whether the words that stand are a sentence, and which kinds may come next: none where 48 words stand.
+    pub fn look(&self) -> Result<Look, ReadingRefusal>
         ensures { Looked self.now result }
     {
-        if self.chart.len() < 4802 {
-            return Err(ReadingRefusal::ShortChart);
-        }
-        let count = self.line.count;
+        let cells = self.cells()?;
         let tables = self.grammar.tables();
-        let sentence = accepts(tables, self.chart, count);
-        if count == 48 {
-            return Ok((sentence, 0));
+        let count = self.line.len();
+        let sentence = accepts(tables, cells, count);
+        if self.line.is_full() {
+            return Ok(Look { sentence, kinds: 0 });
         }
-        let kinds = expected_kinds(tables, self.chart, count);
-        Ok((sentence, kinds))
+        let kinds = expected_kinds(tables, cells, count);
+        Ok(Look { sentence, kinds })
     }
 
     // Lists the smallest tree of the words that stand into the records, and answers how many records it has.
     pub fn list(&self, records: &mut [Record]) -> Result<usize, ReadingRefusal>
         ensures { Listed self.now records.old result records.new }
     {
-        if self.chart.len() < 4802 {
-            return Err(ReadingRefusal::ShortChart);
-        }
+        let cells = self.cells()?;
         let tables = self.grammar.tables();
-        let draft = self.grammar.draft();
-        let productions = draft.productions();
-        let words = self.line.words();
-        listing::list(tables, productions, words, self.chart, records)
+        let productions = self.grammar.draft().productions();
+        listing::list(tables, productions, self.words(), cells, records)
     }
 
     // The sum of the products of all trees of the words that stand, on the scale of the table's values. The table is filled with the
@@ -109,11 +81,9 @@ impl<'b, 'c> Reading<'b, 'c> {
         ensures scored { Scored S.Semiring.scale self.now table.old result table.new }
         ensures refused { ScoreRefused self.now (length table.old) (without_value result) }
     {
-        if self.chart.len() < 4802 {
-            return Err(ReadingRefusal::ShortChart);
-        }
+        self.cells()?;
         let draft = self.grammar.draft();
-        let words = self.line.words();
+        let words = self.words();
         let width = words.len() + 1;
         if table.len() < draft.place_count() * (width * width) {
             return Err(ReadingRefusal::ShortTable);
@@ -127,7 +97,7 @@ impl<'b, 'c> Reading<'b, 'c> {
     pub fn words(&self) -> &[u8]
         ensures { result.now ≡ words self.now }
     {
-        self.line.words()
+        self.line.as_slice()
     }
 
     // Ends the reading, and gives the chart back as it is.
