@@ -25,11 +25,6 @@ in_run b = is_letter b || is_digit b
 abbrev pub is_visible : ℕ → Bool
 is_visible b = between 33 126 b
 
--- every byte passes
-abbrev pub every : (ℕ → Bool) → List ℕ → Bool
-every p [] = true
-every p (b ∷ bs) = p b && every p bs
-
 -- the first byte is there and passes
 abbrev pub begins : (ℕ → Bool) → List ℕ → Bool
 begins p [] = false
