@@ -1,5 +1,5 @@
 use Rattle.std.proofs.Common.{◌+◌, ◌*◌}
-use Rattle.exhaustive.proofs.prefixes.+begins_begins_at_begins_behind_begins_from.Given as goal
+use Rattle.exhaustive.proofs.prefixes.Trial.+prefixes.Given as goal
 
 abbrev pub decreases-begins_from : goal.decreases-begins_from
 decreases-begins_from l = 4 * l.steps

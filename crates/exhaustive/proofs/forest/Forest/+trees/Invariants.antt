@@ -1,5 +1,5 @@
 use Rattle.std.proofs.Common.{◌+◌, ◌*◌}
-use Rattle.exhaustive.proofs.counting.+trees_at_trees_from_trees_of_trees_split.Given as goal
+use Rattle.exhaustive.proofs.forest.Forest.+trees.Given as goal
 
 abbrev pub decreases-trees_from : goal.decreases-trees_from
 decreases-trees_from l = 4 * l.steps
