@@ -1,5 +1,5 @@
 -- The bytes that words are made of. Assumes nothing.
-use Rattle.std.specs.Prelude.{ℕ, Bool, true, false, ◌&&◌, ◌||◌, List, [], ◌∷◌, ◌==◌, nat_le}
+use Rattle.std.specs.Prelude.{ℕ, Bool, false, ◌&&◌, ◌||◌, List, [], ◌∷◌, ◌==◌, nat_le}
 
 -- the byte is from low to high
 abbrev pub between : ℕ → ℕ → ℕ → Bool

@@ -1,7 +1,4 @@
-use Rattle.std.proofs.Common.{Ok, Err, ap, sym, subst}
-use Rattle.spellings.specs.Model.{words}
-use Rattle.lines.specs.Model.{word_of}
-use Rattle.lines.specs.Lines.{PutsWord, unknown, refused, taken}
+use Rattle.lines.specs.Lines.{unknown, refused, taken}
 use Rattle.lines.proofs.put_word.Goals as goal
 
 pub returns-in_default : goal.returns-in_default
