@@ -13,7 +13,7 @@ use lines::put_line;
 use listing_theory::record::Record;
 use reading::reading::Reading;
 
-// The number of a refusal, or 0, with 256 times a count, a line or a place.
+// The number of a refusal, or 0, with 256 times a count, a line or a place: a C program gets one number.
 fn pack(number: u8, more: usize) -> u32
     requires { more ≤ 65535 }
     ensures { result ≡ packed number more }

@@ -1,21 +1,36 @@
 ghost use Rattle.std.specs.Prelude.{◌<◌, OnSome};
 
 use crate::conflicts::Conflicts;
-use crate::line::Position;
+use crate::position::Position;
 use draft::draft::Draft;
+use grammar::production::Production;
 use std::alloc::{AllocError, Global};
+use std::collections::HashMap;
 
-// Stands for the fewest words of a production that has no tree. A tree with the fewest words has no production twice on
-// a way down, so that it has fewer words than that, whatever the productions are.
-const NEVER: u64 = u64::MAX;
-
-// A draft with its conflicts and, for each production by its number, the fewest words that a conflict-free tree of it
-// has.
+// A draft with, for each position, the productions that may stand there, and for each production that has a
+// conflict-free tree the fewest words of one. Productions go by their numbers.
 #[derive(Drop)]
 pub struct Book {
     draft: Draft,
-    conflicts: Conflicts,
-    fewest: Vec<u64>,
+    children: HashMap<Position, Vec<u8>>,
+    fewest: HashMap<u8, usize>,
+}
+
+// The productions that may stand at a position of a parent with this many symbols on the right, which holds the symbol.
+fn children_at(
+    heap: Global,
+    draft: &Draft,
+    conflicts: &Conflicts,
+    at: Position,
+    size: usize,
+    symbol: u8,
+) -> Result<Vec<u8>, AllocError> {
+    (1..=32)
+        .zip(draft.productions())
+        .filter(|(_, production)| production.left() == symbol)
+        .map(|(number, _)| number)
+        .filter(|number| !conflicts.forbid(at, size, *number))
+        .collect(heap)
 }
 
 impl Book {
@@ -23,31 +38,52 @@ impl Book {
     // levels, and each round takes in the trees with one level more.
     pub(crate) fn new(heap: Global, draft: Draft) -> Result<Book, AllocError> {
         let conflicts = Conflicts::new(heap, &draft)?;
-        let fewest = vec![in heap; NEVER; 33]?;
         let mut book = Book {
             draft,
-            conflicts,
-            fewest,
+            children: HashMap::new(heap),
+            fewest: HashMap::new(heap),
         };
+        book.add_children(heap, &conflicts)?;
         for _ in 0..32 {
-            book.take_in();
+            book.take_in()?;
         }
         Ok(book)
     }
 
-    // Takes in the trees with one level more.
-    fn take_in(&mut self) {
-        for production in 1..=32 {
-            let fewest = self.fewest_from(Position::first(production));
-            if let Some(slot) = self.fewest.get_mut(usize::from(production)) {
-                *slot = fewest;
+    // Adds what may stand at the positions of the productions.
+    fn add_children(&mut self, heap: Global, conflicts: &Conflicts) -> Result<(), AllocError> {
+        for number in 1..=32 {
+            if let Some(parent) = self.production(number) {
+                self.add_children_of(heap, conflicts, number, parent.right())?;
             }
         }
+        Ok(())
     }
 
-    // The start symbol.
-    pub(crate) fn start(&self) -> u8 {
-        self.draft.start()
+    // Adds what may stand at the positions of the production, which has the symbols on the right.
+    fn add_children_of(
+        &mut self,
+        heap: Global,
+        conflicts: &Conflicts,
+        production: u8,
+        right: &[u8],
+    ) -> Result<(), AllocError> {
+        for (index, symbol) in right.iter().enumerate() {
+            let at = Position { production, index };
+            let children = children_at(heap, &self.draft, conflicts, at, right.len(), *symbol)?;
+            self.children.insert(at, children)?;
+        }
+        Ok(())
+    }
+
+    // Takes in the trees with one level more.
+    fn take_in(&mut self) -> Result<(), AllocError> {
+        for production in 1..=32 {
+            if let Some(fewest) = self.fewest_from(Position::first(production)) {
+                self.fewest.insert(production, fewest)?;
+            }
+        }
+        Ok(())
     }
 
     // How many places the productions have: one more than symbols on the right, for each.
@@ -55,78 +91,64 @@ impl Book {
         self.draft.place_count()
     }
 
-    // Whether the production is one of the nonterminal.
-    pub(crate) fn is_of(&self, number: u8, nonterminal: u8) -> bool {
-        match self.draft.production(usize::from(number)) {
-            Some(production) => production.left() == nonterminal,
-            None => false,
-        }
+    // The production of a number.
+    fn production(&self, number: u8) -> Option<Production> {
+        self.draft.production(usize::from(number))
+    }
+
+    // Whether the production is one of the start symbol.
+    pub(crate) fn is_root(&self, number: u8) -> bool {
+        let start = self.draft.start();
+        self.production(number)
+            .is_some_and(|production| production.left() == start)
     }
 
     // The price of a production.
     pub(crate) fn price(&self, number: u8) -> u32 {
-        match self.draft.production(usize::from(number)) {
-            Some(production) => u32::from(production.price()),
-            None => 0,
-        }
-    }
-
-    // How many symbols a production has on the right.
-    fn size(&self, number: u8) -> usize {
-        match self.draft.production(usize::from(number)) {
-            Some(production) => production.right().len(),
-            None => 0,
-        }
+        self.production(number)
+            .map_or(0, |production| u32::from(production.price()))
     }
 
     // The symbol at a position.
     pub(crate) fn symbol(&self, at: Position) -> Option<u8>
         ensures { OnSome result (at.index < 6) }
     {
-        let production = self.draft.production(usize::from(at.production))?;
+        let production = self.production(at.production)?;
         production.right().get(at.index).copied()
     }
 
-    // Whether the production may stand at the position, which holds the nonterminal.
-    pub(crate) fn fits(&self, at: Position, nonterminal: u8, child: u8) -> bool {
-        if !self.is_of(child, nonterminal) {
-            return false;
+    // The productions that may stand at a position, by their numbers.
+    pub(crate) fn children(&self, at: Position) -> &[u8] {
+        match self.children.get(&at) {
+            Some(children) => children.as_slice(),
+            None => &[],
         }
-        !self.conflicts.forbid(at, self.size(at.production), child)
     }
 
-    // The fewest words of what may stand at the position, which holds the symbol.
-    fn fewest_at(&self, at: Position, symbol: u8) -> u64 {
+    // The fewest words of what may stand at the position, which holds the symbol; none where no tree can.
+    fn fewest_at(&self, at: Position, symbol: u8) -> Option<usize> {
         if symbol >= 16 {
-            return 1;
+            return Some(1);
         }
-        let mut fewest = NEVER;
-        for child in 1..=32 {
-            if self.fits(at, symbol, child) {
-                let of_child = self.fewest.get(usize::from(child));
-                fewest = fewest.min(of_child.copied().unwrap_or(NEVER));
-            }
-        }
-        fewest
+        self.children(at)
+            .iter()
+            .filter_map(|child| self.fewest.get(child).copied())
+            .min()
     }
 
-    // The fewest words of what may stand at the position and behind it.
-    pub(crate) fn fewest_from(&self, at: Position) -> u64 {
+    // The fewest words of what may stand at the position and behind it; none where no trees can.
+    pub(crate) fn fewest_from(&self, at: Position) -> Option<usize> {
         let production = at.production;
-        let Some(parent) = self.draft.production(usize::from(production)) else {
-            return NEVER;
-        };
-        let mut sum = 0u64;
-        for (index, symbol) in parent.right().iter().enumerate() {
-            if index >= at.index {
-                sum = sum.saturating_add(self.fewest_at(Position { production, index }, *symbol));
-            }
+        let parent = self.production(production)?;
+        let mut sum = 0usize;
+        for (index, symbol) in parent.right().iter().enumerate().skip(at.index) {
+            sum = sum.saturating_add(self.fewest_at(Position { production, index }, *symbol)?);
         }
-        sum
+        Some(sum)
     }
 
     // Whether trees can stand at the position and behind it.
     pub(crate) fn can_end(&self, at: Position) -> bool {
-        self.fewest_from(at) < NEVER
+        self.fewest_from(at).is_some()
     }
 }

@@ -1,121 +1,94 @@
 ghost use Rattle.std.specs.Prelude.{◌<◌};
 
-use crate::counting::can_stand;
-use crate::line::{Line, Position, Span};
-use crate::pairs::Pairs;
-use crate::spans::Spans;
+use crate::forest::Forest;
+use crate::position::{Position, Span};
 use std::alloc::{AllocError, Global};
+use std::collections::HashSet;
 
 // How many steps the trial of trees may go down: it tries each of at most 32 productions at each of at most 49 places
 // once, and passes at most six symbols before it goes down.
 const STEPS: u32 = 7 * 32 * 49;
 
-// Whether the words of the span begin the words of a tree of the production. Where the production is being tried at
-// this place, or was tried in vain, a second try finds nothing new.
-#[cycle(begins_begins_at_begins_behind_begins_from)]
-fn begins(
-    line: &Line,
-    spans: &mut Spans,
-    tried: &mut Pairs,
-    production: u8,
-    span: Span,
-    steps: u32,
-) -> bool {
-    if tried.has(production, span.from) {
-        return false;
-    }
-    tried.put(production, span.from);
-    begins_from(line, spans, tried, Position::first(production), span, steps)
+// The trial of trees that words begin: the words, and which production was tried at which place.
+#[derive(Drop)]
+struct Trial<'f, 'b> {
+    forest: &'f mut Forest<'b>,
+    tried: HashSet<(u8, usize)>,
 }
 
-// Whether the words of the span begin the words of a tree that may stand at the position, which holds the nonterminal.
-#[cycle(begins_begins_at_begins_behind_begins_from)]
-fn begins_at(
-    line: &Line,
-    spans: &mut Spans,
-    tried: &mut Pairs,
-    at: Position,
-    nonterminal: u8,
-    span: Span,
-    steps: u32,
-) -> bool {
-    for child in 1..=32 {
-        if line.book.fits(at, nonterminal, child) {
-            if begins(line, spans, tried, child, span, steps) {
-                return true;
-            }
-        }
+impl<'f, 'b> Trial<'f, 'b> {
+    // Whether the words of the span begin the words of a tree of the production. Where the production is being tried at
+    // this place, or was tried in vain, a second try finds nothing new.
+    #[cycle(prefixes)]
+    fn begins(&mut self, production: u8, span: Span, steps: u32) -> Result<bool, AllocError> {
+        let is_new = self.tried.insert((production, span.from))?;
+        Ok(is_new && self.begins_from(Position::first(production), span, steps)?)
     }
-    false
-}
 
-// Whether the words of the span begin words that the nonterminal at the position and the symbols behind it may stand
-// over, with the words of a tree at the position first.
-#[cycle(begins_begins_at_begins_behind_begins_from)]
-fn begins_behind(
-    line: &Line,
-    spans: &mut Spans,
-    tried: &mut Pairs,
-    at: Position,
-    nonterminal: u8,
-    span: Span,
-    steps: u32,
-) -> bool
-    requires { at.index < 6 }
-{
-    for middle in span.from..=span.to {
-        if can_stand(line, spans, at, nonterminal, span.ending(middle)) {
-            if begins_from(line, spans, tried, at.next(), span.starting(middle), steps) {
-                return true;
-            }
-        }
-    }
-    false
-}
-
-// Whether the words of the span begin words that the symbols at the position and behind it may stand over.
-#[cycle(begins_begins_at_begins_behind_begins_from)]
-fn begins_from(
-    line: &Line,
-    spans: &mut Spans,
-    tried: &mut Pairs,
-    at: Position,
-    span: Span,
-    steps: u32,
-) -> bool {
-    if steps == 0 {
-        return false;
-    }
-    if span.from >= span.to {
-        return line.book.can_end(at);
-    }
-    let Some(symbol) = line.book.symbol(at) else {
-        return false;
-    };
-    if symbol < 16 {
-        // the words end inside the nonterminal, or behind it
-        return line.book.can_end(at.next())
-            && begins_at(line, spans, tried, at, symbol, span, steps - 1)
-            || begins_behind(line, spans, tried, at, symbol, span, steps - 1);
-    }
-    let rest = span.starting(span.from + 1);
-    line.has(span.from, symbol) && begins_from(line, spans, tried, at.next(), rest, steps - 1)
-}
-
-// Whether the first words, as many as `count`, begin the words of a tree of the grammar.
-pub(crate) fn some_begins(
-    heap: Global,
-    line: &Line,
-    spans: &mut Spans,
-    count: u8,
-) -> Result<bool, AllocError> {
-    let mut tried = Pairs::new(heap)?;
-    let span = Span { from: 0, to: count };
-    for production in 1..=32 {
-        if line.book.is_of(production, line.book.start()) {
-            if begins(line, spans, &mut tried, production, span, STEPS) {
+    // Whether the words of the span begin the words of a tree that may stand at the position.
+    #[cycle(prefixes)]
+    fn begins_at(&mut self, at: Position, span: Span, steps: u32) -> Result<bool, AllocError> {
+        let book = self.forest.book;
+        for child in book.children(at) {
+            if self.begins(*child, span, steps)? {
                 return Ok(true);
             }
+        }
+        Ok(false)
+    }
+
+    // Whether the words of the span begin words that the nonterminal at the position and the symbols behind it may stand
+    // over, with the words of a tree at the position first.
+    #[cycle(prefixes)]
+    fn begins_behind(&mut self, at: Position, span: Span, steps: u32) -> Result<bool, AllocError>
+        requires { at.index < 6 }
+    {
+        for middle in span.from..=span.to {
+            if self.forest.can_stand(at, span.ending(middle))?
+                && self.begins_from(at.next(), span.starting(middle), steps)?
+            {
+                return Ok(true);
+            }
+        }
+        Ok(false)
+    }
+
+    // Whether the words of the span begin words that the symbols at the position and behind it may stand over.
+    #[cycle(prefixes)]
+    fn begins_from(&mut self, at: Position, span: Span, steps: u32) -> Result<bool, AllocError> {
+        if steps == 0 {
+            return Ok(false);
+        }
+        if span.from >= span.to {
+            return Ok(self.forest.book.can_end(at));
+        }
+        match self.forest.book.symbol(at) {
+            // the words end inside the nonterminal, or behind it
+            Some(nonterminal) if nonterminal < 16 => {
+                Ok(
+                    self.forest.book.can_end(at.next()) && self.begins_at(at, span, steps - 1)?
+                        || self.begins_behind(at, span, steps - 1)?,
+                )
+            }
+            Some(kind) if self.forest.has(span.from, kind) => {
+                self.begins_from(at.next(), span.starting(span.from + 1), steps - 1)
+            }
+            _ => Ok(false),
+        }
+    }
+}
+
+// Whether the words begin the words of a tree of the grammar.
+pub(crate) fn some_begins(heap: Global, forest: &mut Forest) -> Result<bool, AllocError> {
+    let book = forest.book;
+    let span = forest.span();
+    let mut trial = Trial {
+        forest,
+        tried: HashSet::new(heap),
+    };
+    for root in (1..=32).filter(|number| book.is_root(*number)) {
+        if trial.begins(root, span, STEPS)? {
+            return Ok(true);
         }
     }
     Ok(false)

@@ -1,3 +1,5 @@
+use std::fmt;
+
 // How many trees there are, stopping at 4,294,967,295, and the smallest of their prices, stopping there too.
 #[derive(Clone, Copy)]
 pub struct Trees {
@@ -36,5 +38,12 @@ impl Trees {
             count: self.count.saturating_mul(others.count),
             price: self.price.saturating_add(others.price),
         }
+    }
+}
+
+impl fmt::Display for Trees {
+    fn fmt<W: fmt::Write>(&self, f: &mut fmt::Formatter<W>) -> fmt::Result {
+        let Trees { count, price } = self;
+        write!(f, "ok trees {count} price {price}")
     }
 }

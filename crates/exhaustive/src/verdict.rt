@@ -1,112 +1,67 @@
 use crate::book::Book;
-use crate::counting::trees_over;
-use crate::line::Line;
+use crate::fault::LineError;
+use crate::forest::Forest;
 use crate::prefixes::some_begins;
-use crate::spans::Spans;
-use crate::words::{kind_of, word_end, word_start};
+use crate::trees::Trees;
+use crate::words::{Words, kind_of};
+use grammar::refusals::{LineRefusal, ReadingRefusal, Refusal};
 use spellings::spellings::Spellings;
-use std::alloc::{AllocError, Global};
-use std::fmt;
+use std::alloc::Global;
 
-// What a line is: a sentence with its trees, or refused with a number at a place.
-#[derive(Clone, Copy)]
-pub enum Verdict {
-    Sentence { trees: u32, price: u32 },
-    Refused { number: u8, place: usize },
-}
+// The most bytes of a line, the most words of one, and the most entries of a table of scores.
+const LINE_BYTES: usize = 16384;
 
-impl fmt::Display for Verdict {
-    fn fmt<W: fmt::Write>(&self, f: &mut fmt::Formatter<W>) -> fmt::Result {
-        match self {
-            Verdict::Sentence { trees, price } => write!(f, "ok trees {trees} price {price}"),
-            Verdict::Refused { number, place } => write!(f, "refused {number} at {place}"),
-        }
+const LINE_WORDS: usize = 48;
+
+const TABLE_ENTRIES: usize = 8000;
+
+// Puts a word of a kind, which stands at the place.
+fn put_word(heap: Global, forest: &mut Forest, kind: u8, place: usize) -> Result<(), LineError> {
+    if forest.span().to >= LINE_WORDS {
+        let refusal = Refusal::Reading(ReadingRefusal::LineFull);
+        return Err(LineError::refused(refusal, place));
     }
-}
-
-// The words that stand, by their kinds, and what is known of the trees over them.
-#[derive(Drop)]
-struct Standing {
-    words: [u8; 48],
-    count: u8,
-    spans: Spans,
-}
-
-impl Standing {
-    // Puts a word of a kind, and answers the number of the refusal where it is refused.
-    fn put(&mut self, heap: Global, book: &Book, kind: u8) -> Result<Option<u8>, AllocError> {
-        if self.count >= 48 {
-            return Ok(Some(9));
-        }
-        if let Some(slot) = self.words.get_mut(usize::from(self.count)) {
-            *slot = kind;
-        }
-        self.count += 1;
-        let line = Line {
-            book,
-            words: &self.words,
-        };
-        if some_begins(heap, &line, &mut self.spans, self.count)? {
-            return Ok(None);
-        }
-        Ok(Some(11))
+    forest.push(kind)?;
+    if some_begins(heap, forest)? {
+        return Ok(());
     }
-
-    // What the words are, which are those of a line of this length.
-    fn verdict(&mut self, book: &Book, length: usize) -> Verdict {
-        let line = Line {
-            book,
-            words: &self.words,
-        };
-        let trees = trees_over(&line, &mut self.spans, self.count);
-        if trees.is_none() {
-            return Verdict::Refused {
-                number: 13,
-                place: length,
-            };
-        }
-        let side = usize::from(self.count) + 1;
-        if book.place_count().saturating_mul(side).saturating_mul(side) > 8000 {
-            return Verdict::Refused {
-                number: 16,
-                place: 0,
-            };
-        }
-        Verdict::Sentence {
-            trees: trees.count,
-            price: trees.price,
-        }
-    }
+    let refusal = Refusal::Reading(ReadingRefusal::NothingBegins);
+    Err(LineError::refused(refusal, place))
 }
 
-// What a line is.
+// The trees of the words, which are those of a line of this length.
+fn trees_of_words(forest: &mut Forest, length: usize) -> Result<Trees, LineError> {
+    let trees = forest.trees()?;
+    if trees.is_none() {
+        let refusal = Refusal::Reading(ReadingRefusal::NoSentence);
+        return Err(LineError::refused(refusal, length));
+    }
+    let side = forest.span().to.saturating_add(1);
+    let entries = side
+        .saturating_mul(side)
+        .saturating_mul(forest.book.place_count());
+    if entries > TABLE_ENTRIES {
+        let refusal = Refusal::Reading(ReadingRefusal::ShortTable);
+        return Err(LineError::refused(refusal, 0));
+    }
+    Ok(trees)
+}
+
+// The trees of a line.
 pub(crate) fn verdict_of(
     heap: Global,
     book: &Book,
     spellings: &Spellings,
     line: &[u8],
-) -> Result<Verdict, AllocError> {
-    if line.len() > 16384 {
-        return Ok(Verdict::Refused {
-            number: 21,
-            place: 16384,
-        });
+) -> Result<Trees, LineError> {
+    let unknown = Refusal::Line(LineRefusal::UnknownWord);
+    if line.len() > LINE_BYTES {
+        return Err(LineError::refused(unknown, LINE_BYTES));
     }
-    let mut standing = Standing {
-        words: [0; 48],
-        count: 0,
-        spans: Spans::new(heap)?,
-    };
-    let mut place = word_start(line, 0);
-    while place < line.len() {
-        let end = word_end(line, place);
-        let Some(kind) = kind_of(spellings, &line[place..end]) else {
-            return Ok(Verdict::Refused { number: 21, place });
-        };
-        if let Some(number) = standing.put(heap, book, kind)? {
-            return Ok(Verdict::Refused { number, place });
-        }
-        place = word_start(line, end);
+    let mut forest = Forest::new(heap, book);
+    for (word, place) in Words::of(line) {
+        let kind = kind_of(spellings, word).ok_or(LineError::refused(unknown, place))?;
+        put_word(heap, &mut forest, kind, place)?;
     }
-    Ok(standing.verdict(book, line.len()))
+    trees_of_words(&mut forest, line.len())
 }

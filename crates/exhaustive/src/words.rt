@@ -1,66 +1,67 @@
-ghost use Rattle.std.specs.Prelude.{◌<◌, ◌≤◌, length};
+ghost use Rattle.std.specs.Prelude.{◌-◌, ◌≤◌, length};
+ghost use Rattle.std.specs.Iterator.{at_most};
 
 use spellings::spellings::Spellings;
 use syntax::spelling::{Literal, Spelling};
+
+// How many bytes at the front of the text pass the test.
+fn front<F: Fn(u8) -> bool>(text: &[u8], passes: F) -> usize
+    requires { F.IsAlwaysCallable passes }
+    ensures { result ≤ length text.now }
+{
+    text.iter()
+        .position(|byte| !passes(*byte))
+        .unwrap_or(text.len())
+}
 
 // Whether the byte may stand in a run.
 fn in_run(byte: u8) -> bool {
     byte.is_ascii_alphanumeric() || byte == b'_'
 }
 
-// The first place from `from` on that is no space, or the line's length.
-pub(crate) fn word_start(line: &[u8], from: usize) -> usize
-    requires { from ≤ length line.now }
-    ensures { (from ≤ result) × (result ≤ length line.now) }
-{
-    for at in from..line.len() {
-        if line[at] != b' ' {
-            return at;
-        }
-    }
-    line.len()
+// The words of a line from a place on, each with its place.
+#[derive(Drop)]
+pub struct Words<'a> {
+    line: &'a [u8],
+    from: usize,
+    ghost within: { from ≤ length line.now },
 }
 
-// Where the run that goes on at `from` ends.
-fn run_end(line: &[u8], from: usize) -> usize
-    requires { from ≤ length line.now }
-    ensures { (from ≤ result) × (result ≤ length line.now) }
-{
-    for at in from..line.len() {
-        if !in_run(line[at]) {
-            return at;
-        }
+impl<'a> Words<'a> {
+    // The words of the line.
+    pub(crate) fn of(line: &'a [u8]) -> Words<'a> {
+        Words { line, from: 0 }
     }
-    line.len()
 }
 
-// Where the word at `start` ends: behind a run of letters, digits and underscores, or behind one other byte.
-pub(crate) fn word_end(line: &[u8], start: usize) -> usize
-    requires { start < length line.now }
-    ensures { (start < result) × (result ≤ length line.now) }
-{
-    if in_run(line[start]) {
-        return run_end(line, start + 1);
+impl<'a> Iterator for Words<'a> {
+    type Item = (&'a [u8], usize);
+
+    ghost remaining = { λ w. at_most (length w.line.now - w.from) };
+
+    // A word is a run of letters, digits and underscores, as long as it can be, or one other byte; spaces part words.
+    fn next(&mut self) -> Option<(&'a [u8], usize)> {
+        let line = self.line;
+        let place = self.from + front(&line[self.from..], |byte| byte == b' ');
+        if place == line.len() {
+            return None;
+        }
+        let run = front(&line[place..], in_run);
+        let end = if run == 0 { place + 1 } else { place + run };
+        self.from = end;
+        Some((&line[place..end], place))
     }
-    start + 1
 }
 
 // Whether each byte is a digit.
 fn is_number(word: &[u8]) -> bool {
-    for byte in word {
-        if !byte.is_ascii_digit() {
-            return false;
-        }
-    }
-    true
+    word.iter().all(|byte| byte.is_ascii_digit())
 }
 
 // Whether the word begins as a name does.
 fn is_name(word: &[u8]) -> bool {
-    match word {
-        [first, ..] => first.is_ascii_alphabetic() || *first == b'_',
-        [] => false,
-    }
+    word.first()
+        .is_some_and(|byte| byte.is_ascii_alphabetic() || *byte == b'_')
 }
 
 // The kind of the literal with the word's bytes.

@@ -1,10 +1,13 @@
 -- The next word of a line. Assumes nothing.
 use Rattle.std.proofs.Common.{◌≡◌, ℕ, ◌+◌, ◌-◌, ◌<◌, ◌≤◌, Bool, true, false, cond, List, [], ◌∷◌, length, get_or, take, drop, sym, refl, ap, ◌∙◌, subst, arith}
-use Rattle.std.specs.List.{prefix_len}
-use Rattle.std.proofs.lemmas.List.{drop-drop, drop_more, drop_all, length-take-le, length-drop}
-use Rattle.std.proofs.lemmas.Bool.{eqb-true}
-use Rattle.lines.specs.Bytes.{is_blank, is_letter, is_digit, in_run, is_visible, every, begins}
+use Rattle.std.specs.List.{prefix_len, list_all}
+use Rattle.std.proofs.lemmas.List.{drop-drop, drop_more, drop_all, length-take-le, length-drop, get_or-drop, take_rest}
+use Rattle.std.proofs.lemmas.Bool.{eqb-true, both_ways, eq-eqb}
+use Rattle.std.proofs.lemmas.List.Sums.{prefix_len_stops}
+use Rattle.lines.specs.Bytes.{is_blank, is_letter, is_digit, in_run, is_visible, begins}
 use Rattle.lines.specs.Cuts.{Word, name, number, mark, stray, bytes_of, Placed, word_of_run, Starts, starts_run, starts_mark, starts_stray, Cuts, cut_end, cut_blank, cut_word}
+use Rattle.lines.specs.declared.next.Words.{Words}
+use Rattle.lines.specs.Iterating.{Continues}
 use Rattle.lines.proofs.Runs.{one_more, run_first}
 
 moved : {at to : ℕ} {text line : List ℕ} {ws : List Placed} → at ≡ to → text ≡ line → Cuts at text ws → Cuts to line ws
@@ -26,6 +29,20 @@ module _ (line : List ℕ) (from at : ℕ) (e : at ≡ from + prefix_len is_blan
       let n = prefix_len is_blank (drop from line) in
       pass from (drop from line) _ (moved e (ap (λ m. drop m line) e ∙ sym (drop-drop n from line)) (cut_word s (moved f refl c)))
 
+-- where what passes ends, of the text from a place on
+pub front_at : (p : ℕ → Bool) (line rest : List ℕ) (from n : ℕ) → rest ≡ take (length line - from) (drop from line) → n ≡ prefix_len p rest → from + n ≡ from + prefix_len p (drop from line)
+front_at p line rest from n e f = ap (λ k. from + k) (f ∙ ap (prefix_len p) (e ∙ take_rest line from))
+
+blank_stops : (line : List ℕ) (from at : ℕ) → at ≡ from + prefix_len is_blank (drop from line) → at < length line → is_blank (get_or line at 0) ≡ false
+blank_stops line from at e h =
+    let n = prefix_len is_blank (drop from line) in
+    let l = length-drop from line in
+    ap is_blank (ap (λ k. get_or line k 0) e ∙ sym (get_or-drop from line n 0)) ∙ prefix_len_stops is_blank (drop from line) 0 (omega arith)
+
+-- and no blank stands there
+pub no_blank : (line : List ℕ) (from at : ℕ) → at ≡ from + prefix_len is_blank (drop from line) → at < length line → ¬ (get_or line at 0 ≡ 32)
+no_blank line from at e h b = both_ways (is_blank (get_or line at 0)) (blank_stops line from at e h) (eq-eqb _ 32 b)
+
 pub next_none : (line : List ℕ) (from : ℕ) → length line ≤ from + prefix_len is_blank (drop from line) → Cuts from (drop from line) []
 next_none line from h =
     let n = prefix_len is_blank (drop from line) in
@@ -38,7 +55,7 @@ word_bytes false false run = refl
 
 -- the bytes of the word that a run is
 pub run_bytes : (run : List ℕ) → bytes_of (word_of_run run) ≡ run
-run_bytes run = word_bytes (begins is_letter run) (every is_digit run) run
+run_bytes run = word_bytes (begins is_letter run) (list_all is_digit run) run
 
 -- a run that stands at a place
 module _ (line : List ℕ) (at end : ℕ) (e : end ≡ at + prefix_len in_run (drop at line)) (m : at < end) (w : Word) (f : w ≡ word_of_run (take (end - at) (drop at line))) where
@@ -68,3 +85,7 @@ module _ (line : List ℕ) (at : ℕ) (h : at < length line) where
 
   pub stray_starts : (¬ (get_or line at 0 ≡ 32)) → is_visible (get_or line at 0) ≡ false → Starts (drop at line) (stray (take (at + 1 - at) (drop at line))) (drop (at + 1) line)
   stray_starts i v = subst (λ bs. Starts (drop at line) (stray bs) (drop (at + 1) line)) (sym one_byte) (starts_stray (drop_more line at 0 h) i v)
+
+-- the cut of the words that are left
+pub moved_on : {line : List ℕ} {from : ℕ} (w : Words) {ws : List Placed} → Continues line from w → Cuts w.from (drop w.from w.line.now) ws → Cuts from (drop from line) ws
+moved_on {line} {from} w {ws} c cut = subst (λ t. Cuts from (drop from t) ws) c.0 (subst (λ n. Cuts n (drop n w.line.now) ws) c.1 cut)

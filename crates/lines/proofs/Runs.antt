@@ -1,22 +1,22 @@
--- Runs, and loops that go past the bytes that pass a test. Assumes nothing.
+-- Runs of bytes that pass a test. Assumes nothing.
 use Rattle.std.proofs.Common.{◌≡◌, ℕ, suc, ◌+◌, ◌<◌, ◌≤◌, Bool, true, false, cond, List, [], ◌∷◌, ◌++◌, length, get_or, take, drop, sym, refl, ap, ◌∙◌, subst, ⊎_elim, arith}
-use Rattle.std.specs.List.{prefix_len}
+use Rattle.std.specs.List.{prefix_len, list_all}
 use Rattle.std.proofs.lemmas.List.{take-append-drop, length-take-le, take_at, drop_at}
-use Rattle.std.proofs.lemmas.List.Sums.{prefix_len-drop_yes, prefix_len-drop_no, prefix_len-drop_all, prefix_len-le-length}
+use Rattle.std.proofs.lemmas.List.Sums.{prefix_len-drop_yes, prefix_len-le-length}
 use Rattle.std.proofs.lemmas.Bool.{and_parts, and_from, or_cases, leb-true, le-leb, eqb-true, both_ways}
-use Rattle.lines.specs.Bytes.{between, is_letter, is_digit, in_run, is_visible, every, begins}
+use Rattle.lines.specs.Bytes.{between, is_letter, is_digit, in_run, is_visible, begins}
 use Rattle.lines.specs.Cuts.{Run}
 
 pub one_more : (n : ℕ) → 1 + n ≡ suc n
 one_more n = omega arith
 
 module _ (p : ℕ → Bool) where
-  every_step : (b : Bool) (x : ℕ) (xs : List ℕ) (n : ℕ) → p x ≡ b → every p (take n xs) ≡ true → every p (take (cond b (1 + n) 0) (x ∷ xs)) ≡ true
-  every_step true x xs n e h = subst (λ m. every p (take m (x ∷ xs)) ≡ true) (sym (one_more n)) (and_from (p x) (every p (take n xs)) e h)
+  every_step : (b : Bool) (x : ℕ) (xs : List ℕ) (n : ℕ) → p x ≡ b → list_all p (take n xs) ≡ true → list_all p (take (cond b (1 + n) 0) (x ∷ xs)) ≡ true
+  every_step true x xs n e h = subst (λ m. list_all p (take m (x ∷ xs)) ≡ true) (sym (one_more n)) (and_from (p x) (list_all p (take n xs)) e h)
   every_step false x xs n e h = refl
 
   -- the front that passes
-  pub every_leading : (xs : List ℕ) → every p (take (prefix_len p xs) xs) ≡ true
+  pub every_leading : (xs : List ℕ) → list_all p (take (prefix_len p xs) xs) ≡ true
   every_leading [] = refl
   every_leading (x ∷ xs) = every_step (p x) x xs (prefix_len p xs) refl (every_leading xs)
 
@@ -29,11 +29,11 @@ module _ (p : ℕ → Bool) where
   begins_leading [] = refl
   begins_leading (x ∷ xs) = begins_step (p x) x xs (prefix_len p xs) refl (begins_leading xs)
 
-  pub leading_front : (run rest : List ℕ) → every p run ≡ true → begins p rest ≡ false → prefix_len p (run ++ rest) ≡ length run
+  pub leading_front : (run rest : List ℕ) → list_all p run ≡ true → begins p rest ≡ false → prefix_len p (run ++ rest) ≡ length run
   leading_front [] [] a l = refl
   leading_front [] (b ∷ rest) a l = ap (λ c. cond c (1 + prefix_len p rest) 0) l
   leading_front (x ∷ run) rest a l =
-      let h = and_parts (p x) (every p run) a in
+      let h = and_parts (p x) (list_all p run) a in
       ap (λ c. cond c (1 + prefix_len p (run ++ rest)) 0) h.0 ∙ ap (λ n. 1 + n) (leading_front run rest h.1 l) ∙ one_more (length run)
 
   -- what a front of none, or of some, says of the first byte
@@ -61,9 +61,9 @@ run_is {text} {run} {rest} r =
     let n : length run ≡ prefix_len in_run text = sym (ap (prefix_len in_run) r.is ∙ leading_front in_run run rest r.all r.longest) in
     (sym (ap (take (prefix_len in_run text)) r.is ∙ take_at run rest _ n), sym (ap (drop (prefix_len in_run text)) r.is ∙ drop_at run rest _ n))
 
-front_begins : (p : ℕ → Bool) (run rest : List ℕ) → 0 < length run → every p run ≡ true → begins p (run ++ rest) ≡ true
+front_begins : (p : ℕ → Bool) (run rest : List ℕ) → 0 < length run → list_all p run ≡ true → begins p (run ++ rest) ≡ true
 front_begins p [] rest s a = absurd (omega arith)
-front_begins p (x ∷ run) rest s a = (and_parts (p x) (every p run) a).0
+front_begins p (x ∷ run) rest s a = (and_parts (p x) (list_all p run) a).0
 
 pub run_begins : {text run rest : List ℕ} → Run text run rest → begins in_run text ≡ true
 run_begins {text} {run} {rest} r = ap (begins in_run) r.is ∙ front_begins in_run run rest r.some r.all
@@ -83,13 +83,3 @@ run_visible b e v =
     (or_cases (between 97 122 b) _ l))
     (λ (d : is_digit b ≡ true). seen 48 57 (omega arith) (omega arith) d)
     (or_cases (is_letter b) (is_digit b) e)
-
--- the steps of a loop
-pub again : (p : ℕ → Bool) (line : List ℕ) (i to : ℕ) → i < length line → p (get_or line i 0) ≡ true → i + prefix_len p (drop i line) ≡ to → i + 1 + prefix_len p (drop (i + 1) line) ≡ to
-again p line i to h e inv = omega (arith, prefix_len-drop_yes p line i 0 h e)
-
-pub stops : (p : ℕ → Bool) (line : List ℕ) (i to : ℕ) → i < length line → p (get_or line i 0) ≡ false → i + prefix_len p (drop i line) ≡ to → i ≡ to
-stops p line i to h e inv = omega (arith, prefix_len-drop_no p line i 0 h e)
-
-pub ends : (p : ℕ → Bool) (line : List ℕ) (i to : ℕ) → length line ≤ i → i + prefix_len p (drop i line) ≡ to → i ≡ to
-ends p line i to h inv = omega (arith, prefix_len-drop_all p line i h)

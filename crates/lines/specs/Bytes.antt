@@ -1,5 +1,5 @@
 -- The bytes that words are made of. Assumes nothing.
-use Rattle.std.specs.Prelude.{ℕ, Bool, true, false, ◌&&◌, ◌||◌, List, [], ◌∷◌, ◌==◌, nat_le}
+use Rattle.std.specs.Prelude.{ℕ, Bool, false, ◌&&◌, ◌||◌, List, [], ◌∷◌, ◌==◌, nat_le}
 
 -- the byte is from low to high
 abbrev pub between : ℕ → ℕ → ℕ → Bool
@@ -24,11 +24,6 @@ in_run b = is_letter b || is_digit b
 -- a byte that a word can have
 abbrev pub is_visible : ℕ → Bool
 is_visible b = between 33 126 b
-
--- every byte passes
-abbrev pub every : (ℕ → Bool) → List ℕ → Bool
-every p [] = true
-every p (b ∷ bs) = p b && every p bs
 
 -- the first byte is there and passes
 abbrev pub begins : (ℕ → Bool) → List ℕ → Bool

@@ -1,6 +1,7 @@
 -- The words of a line, with their places. Assumes nothing.
 use Rattle.std.specs.Prelude.{◌≡◌, ℕ, ◌+◌, ◌<◌, true, false, cond, List, [], ◌∷◌, ◌++◌, length}
-use Rattle.lines.specs.Bytes.{is_letter, is_digit, in_run, is_visible, every, begins}
+use Rattle.std.specs.List.{list_all}
+use Rattle.lines.specs.Bytes.{is_letter, is_digit, in_run, is_visible, begins}
 
 -- what stands in a line, by its bytes: a name, a number or a mark, or a byte that no word has
 pub data Word : Type 0 where
@@ -21,12 +22,12 @@ Placed = Word × ℕ
 pub record Run (text run rest : List ℕ) : Type 0 where
   pub is : text ≡ run ++ rest
   pub some : 0 < length run
-  pub all : every in_run run ≡ true
+  pub all : list_all in_run run ≡ true
   pub longest : begins in_run rest ≡ false
 
 -- the word that a run is: a name where it starts with a letter or an underscore, a number where it is all digits, else a mark
 abbrev pub word_of_run : List ℕ → Word
-word_of_run run = cond (begins is_letter run) (name run) (cond (every is_digit run) (number run) (mark run))
+word_of_run run = cond (begins is_letter run) (name run) (cond (list_all is_digit run) (number run) (mark run))
 
 -- the text starts with the word, and the rest is behind it
 pub data Starts (text : List ℕ) : Word → List ℕ → Type 0 where

@@ -3,3 +3,4 @@ pub mod Cuts
 pub mod Model
 pub mod Kinds
 pub mod Lines
+pub mod Iterating

@@ -1,9 +1,10 @@
 -- What putting a line into a reading answers and leaves. Assumes nothing.
-use Rattle.std.specs.Prelude.{◌≡◌, ℕ, ◌<◌, ◌≤◌, List, [], ◌∷◌, ◌++◌, map, length, Ok, Err, Result}
+use Rattle.std.specs.Prelude.{◌≡◌, ℕ, ◌<◌, ◌≤◌, List, [], ◌∷◌, ◌++◌, map, length, Ok, Err, Result, codes, decimal}
 use Rattle.grammar.specs.declared.refusals.ReadingRefusal.{ReadingRefusal}
 use Rattle.grammar.specs.declared.refusals.LineRefusal.TheVariants.{UnknownWord}
 use Rattle.grammar.specs.declared.refusals.Refusal.{Refusal}
 use Rattle.grammar.specs.declared.refusals.Refusal.TheVariants.{Reading as Layer, Line}
+use Rattle.grammar.specs.Refusals.{number}
 use Rattle.syntax.specs.Syntax.{Spelling}
 use Rattle.reading.specs.declared.reading.Reading.{Reading}
 use Rattle.reading.specs.Readings.{words, cells, Long, Marks, Put}
@@ -16,6 +17,10 @@ use Rattle.lines.specs.Kinds.{KindOf, NoKind}
 -- a refusal at a place
 abbrev pub fault : Refusal → ℕ → LineFault
 fault refusal place = record { refusal = refusal; place = place }
+
+-- what is printed of a line that is refused
+abbrev pub fault_report : LineFault → List ℕ
+fault_report f = codes "refused " ++ (decimal (number f.refusal) ++ (codes " at " ++ decimal f.place))
 
 -- a word is put by its kind: it is unknown where it has none, before the reading is asked, and else the reading answers; a refusal
 -- has the word's place

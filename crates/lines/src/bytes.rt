@@ -1,5 +1,6 @@
 ghost use Rattle.std.specs.Prelude.{◌≡◌};
-ghost use Rattle.lines.specs.Bytes.{is_letter, is_digit, in_run, is_visible, every, begins};
+ghost use Rattle.std.specs.List.{list_all};
+ghost use Rattle.lines.specs.Bytes.{is_letter, is_digit, in_run, is_visible, begins};
 
 // Whether the byte is a letter or an underscore.
 pub(crate) fn letter(byte: u8) -> bool
@@ -12,7 +13,7 @@ pub(crate) fn letter(byte: u8) -> bool
 pub(crate) fn digit(byte: u8) -> bool
     ensures { result ≡ is_digit byte }
 {
-    matches!(byte, b'0'..=b'9')
+    byte.is_ascii_digit()
 }
 
 // Whether the byte can stand in a run.
@@ -26,27 +27,19 @@ pub(crate) fn of_run(byte: u8) -> bool
 pub(crate) fn visible(byte: u8) -> bool
     ensures { result ≡ is_visible byte }
 {
-    matches!(byte, 33..=126)
+    byte.is_ascii_graphic()
 }
 
 // Whether the bytes start with a letter or an underscore.
 pub(crate) fn starts_name(bytes: &[u8]) -> bool
     ensures { result ≡ begins is_letter bytes.now }
 {
-    if bytes.len() == 0 {
-        return false;
-    }
-    letter(bytes[0])
+    bytes.first().is_some_and(|byte| letter(*byte))
 }
 
 // Whether all the bytes are digits.
 pub(crate) fn all_digits(bytes: &[u8]) -> bool
-    ensures { result ≡ every is_digit bytes.now }
+    ensures { result ≡ list_all is_digit bytes.now }
 {
-    for byte in bytes {
-        if !digit(*byte) {
-            return false;
-        }
-    }
-    true
+    bytes.iter().all(|byte| digit(*byte))
 }

@@ -15,16 +15,15 @@ fn literal_kind(spellings: &Spellings, bytes: &[u8]) -> Option<u8>
     ensures { MatchOption result (¬ Declared (words spellings.now) (literal bytes.now))
         (KindBy (words spellings.now) (literal bytes.now)) }
 {
-    match Literal::new(bytes) {
-        Some(literal) => spellings.kind_of(&Spelling::Literal(literal)),
-        None => None,
-    }
+    let literal = Literal::new(bytes)?;
+    spellings.kind_of(&Spelling::Literal(literal))
 }
 
 // The kind of a run: that of the literal with its bytes, else that of the spelling for any such run.
 fn run_kind(spellings: &Spellings, bytes: &[u8], any: Spelling) -> Option<u8>
     ensures { FindsRunKind (words spellings.now) bytes.now (spelling any) result }
 {
+    // a match, since a proof can't reach what the closure of an `or_else` answers
     match literal_kind(spellings, bytes) {
         Some(kind) => Some(kind),
         None => spellings.kind_of(&any),

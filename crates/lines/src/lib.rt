@@ -16,11 +16,13 @@ ghost use Rattle.lines.specs.Lines.{PutsWord, PutsLine, PutsKinds, LeavesLine};
 
 use crate::fault::LineFault;
 use crate::kinds::kind_of;
-use crate::next::next_word;
+use crate::next::Words;
 use crate::word::Word;
-use grammar::refusals::{LineRefusal, Refusal};
 use reading::reading::Reading;
 use spellings::spellings::Spellings;
+
+// The most bytes of a line.
+const LINE_BYTES: usize = 16384;
 
 // Every line has exactly one cut into words.
 pub fn cuts_are_unique()
@@ -37,17 +39,11 @@ fn put_word(
     ensures { PutsWord (words spellings.now) reading.old (word_of word.entry, place) result reading.new }
 {
     let Some(kind) = kind_of(spellings, word) else {
-        return Err(LineFault {
-            refusal: Refusal::Line(LineRefusal::UnknownWord),
-            place,
-        });
+        return Err(LineFault::unknown_word(place));
     };
     match reading.put(kind) {
         Ok(_) => Ok(()),
-        Err(refusal) => Err(LineFault {
-            refusal: Refusal::Reading(refusal),
-            place,
-        }),
+        Err(refusal) => Err(LineFault::of_words(refusal, place)),
     }
 }
 
@@ -63,16 +59,11 @@ pub fn put_line(
     ensures kinds { PutsKinds reading.old reading.new }
     ensures stands { Stands reading.old → Stands reading.new }
 {
-    if line.len() > 16384 {
-        return Err(LineFault {
-            refusal: Refusal::Line(LineRefusal::UnknownWord),
-            place: 16384,
-        });
+    if line.len() > LINE_BYTES {
+        return Err(LineFault::unknown_word(LINE_BYTES));
     }
-    let mut from = 0;
-    while let Some((word, place)) = next_word(line, from) {
+    for (word, place) in Words::of(line) {
         put_word(reading, spellings, word, place)?;
-        from = place + word.bytes().len();
     }
     Ok(reading.words().len())
 }

@@ -1,4 +1,5 @@
-ghost use Rattle.std.specs.Prelude.{◌≡◌, ◌+◌, ◌<◌, ◌≤◌, length, drop, slice_index};
+ghost use Rattle.std.specs.Prelude.{◌≡◌, ◌-◌, ◌≤◌, length};
+ghost use Rattle.std.specs.Iterator.{at_most};
 ghost use Rattle.std.specs.List.{prefix_len};
 ghost use Rattle.lines.specs.Bytes.{is_blank, in_run};
 ghost use Rattle.lines.specs.Cuts.{word_of_run};
@@ -7,33 +8,20 @@ ghost use Rattle.lines.specs.Model.{word_of, Next, Within};
 use crate::bytes::{all_digits, of_run, starts_name, visible};
 use crate::word::Word;
 
-// Where the blanks from `from` on end; the line's length where `from` is past it.
-fn past_blanks(line: &[u8], from: usize) -> usize
-    ensures within { result ≤ length line.now }
-    ensures end { result < length line.now → result ≡ from + prefix_len is_blank (drop from line.now) }
-    ensures other { result < length line.now → ¬ (slice_index line.now result ≡ 32) }
-    ensures all { length line.now ≤ result → length line.now ≤ from + prefix_len is_blank (drop from line.now) }
+// How many blanks are in front of the text.
+fn blank_count(text: &[u8]) -> usize
+    ensures count { result ≡ prefix_len is_blank text.now }
+    ensures within { result ≤ length text.now }
 {
-    for i in from..line.len() {
-        if line[i] != b' ' {
-            return i;
-        }
-    }
-    line.len()
+    text.iter().take_while(|byte| **byte == b' ').count()
 }
 
-// Where the run from `from` on ends.
-fn past_run(line: &[u8], from: usize) -> usize
-    requires { from ≤ length line.now }
-    ensures within { result ≤ length line.now }
-    ensures end { result ≡ from + prefix_len in_run (drop from line.now) }
+// How many bytes the run in front of the text has.
+fn run_size(text: &[u8]) -> usize
+    ensures count { result ≡ prefix_len in_run text.now }
+    ensures within { result ≤ length text.now }
 {
-    for i in from..line.len() {
-        if !of_run(line[i]) {
-            return i;
-        }
-    }
-    line.len()
+    text.iter().take_while(|byte| of_run(**byte)).count()
 }
 
 // The word that a run is.
@@ -41,9 +29,8 @@ fn run_word<'a>(run: &'a [u8]) -> Word<'a>
     ensures { word_of result ≡ word_of_run run.now }
 {
     if starts_name(run) {
-        return Word::Name(run);
-    }
-    if all_digits(run) {
+        Word::Name(run)
+    } else if all_digits(run) {
         Word::Number(run)
     } else {
         Word::Mark(run)
@@ -55,11 +42,12 @@ pub fn next_word<'a>(line: &'a [u8], from: usize) -> Option<(Word<'a>, usize)>
     ensures next { Next line.now from result }
     ensures within { Within line.now from result }
 {
-    let start = past_blanks(line, from);
+    let rest = line.get(from..)?;
+    let start = from + blank_count(rest);
     if start >= line.len() {
         return None;
     }
-    let end = past_run(line, start);
+    let end = start + run_size(&line[start..]);
     if end > start {
         return Some((run_word(&line[start..end]), start));
     }
@@ -68,5 +56,39 @@ pub fn next_word<'a>(line: &'a [u8], from: usize) -> Option<(Word<'a>, usize)>
         Some((Word::Mark(byte), start))
     } else {
         Some((Word::Stray(byte), start))
+    }
+}
+
+// The words of a line from a place on, each with its place.
+#[derive(Drop)]
+pub struct Words<'a> {
+    line: &'a [u8],
+    from: usize,
+}
+
+impl<'a> Words<'a> {
+    ghost use Rattle.lines.specs.Iterating.{Continues};
+
+    // All words of the line.
+    pub fn of(line: &'a [u8]) -> Words<'a>
+        ensures { Continues line.now 0 result }
+    {
+        Words { line, from: 0 }
+    }
+}
+
+impl<'a> Iterator for Words<'a> {
+    ghost use Rattle.lines.specs.Iterating.{TakesWord};
+
+    type Item = (Word<'a>, usize);
+
+    ghost next_gives = { TakesWord };
+
+    ghost remaining = { λ w. at_most (length w.line.now - w.from) };
+
+    fn next(&mut self) -> Option<(Word<'a>, usize)> {
+        let (word, place) = next_word(self.line, self.from)?;
+        self.from = place + word.bytes().len();
+        Some((word, place))
     }
 }

@@ -17,10 +17,8 @@ impl<'a> Word<'a> {
         ensures { result.now ≡ bytes_of (word_of self.entry) }
     {
         match self {
-            Word::Name(bytes) => bytes,
-            Word::Number(bytes) => bytes,
-            Word::Mark(bytes) => bytes,
-            Word::Stray(bytes) => bytes,
+            Word::Name(bytes) | Word::Number(bytes) | Word::Mark(bytes) | Word::Stray(bytes) =>
+                bytes,
         }
     }
 }

@@ -1,7 +1,8 @@
 -- The first bytes of a line, kept as more come. Assumes nothing.
-use Rattle.std.proofs.Common.{◌≡◌, ℕ, ◌+◌, ◌-◌, ◌<◌, ◌≤◌, List, [], ◌∷◌, ◌++◌, length, get_or, take, drop, set, Some, sym, ap, ◌∙◌, arith}
+use Rattle.std.proofs.Common.{◌≡◌, ℕ, ◌+◌, ◌-◌, ◌<◌, ◌≤◌, List, [], ◌∷◌, ◌++◌, length, get_or, take, drop, min, Some, Bor, sym, ap, ◌∙◌, arith}
 use native.Mathlib.Decide.{dec_lt}
-use Rattle.std.proofs.lemmas.List.{append-nil, append_assoc, length-take-le, take_all, take-take, take-append-le, take_more, take_more_set, length_push, length-take, length-append, take-append-drop, drop_more, get_or-take}
+use Rattle.std.proofs.Math.Seq.{take-append-add}
+use Rattle.std.proofs.lemmas.List.{length-take-le, take_all, take_at, take-take, take-append-le, length-append, take-append-drop, drop_more, get_or-take}
 use Rattle.file_model.specs.Files.{LineOf}
 use Rattle.walk_lines.specs.Buffers.{TakesOn}
 
@@ -17,37 +18,27 @@ module _ {A : Type 0} (n : ℕ) where
             take-append-le n (take n xs) ys (omega arith) ∙ take-take n n xs (omega arith) ∙ sym (take-append-le n xs ys m)
       ]
 
-  -- a byte more where there is room
-  pub pushed : (xs : List A) (i : ℕ) (y : A) → length xs ≡ n → i < n → take (i + 1) (set xs i y) ≡ take n (take i xs ++ y ∷ [])
-  pushed xs i y e l =
+  -- bytes more, as many as there is room for
+  pub extended :
+      (xs more rest : List A) (i size : ℕ) →
+      length xs ≡ n →
+      i ≤ n →
+      size ≡ min (length more) (n - i) →
+      take (i + size) (take i xs ++ (take size more ++ rest)) ≡ take n (take i xs ++ more)
+  extended xs more rest i size e l s =
       let a = length-take-le i xs (omega arith) in
-      let b = length_push (take i xs) y in
-      take_more_set xs i y (omega arith) ∙ sym (take_all n (take i xs ++ y ∷ []) (omega arith))
-
-  -- where there is none
-  pub passed : (xs : List A) (i : ℕ) (y : A) → length xs ≡ n → i ≡ n → take i xs ≡ take n (take i xs ++ y ∷ [])
-  passed xs i y e l =
-      let a = length-take-le i xs (omega arith) in
-      sym (take-append-le n (take i xs) (y ∷ []) (omega arith) ∙ take_all n (take i xs) (omega arith))
-
-  -- before any byte of the part
-  pub kept_none : (xs : List A) (i : ℕ) → i ≤ n → length xs ≡ n → take i xs ≡ take n (take i xs ++ [])
-  kept_none xs i l e =
-      let a = length-take-le i xs (omega arith) in
-      sym (ap (take n) (append-nil (take i xs)) ∙ take_all n (take i xs) (omega arith))
-
-  -- a byte more of the part
-  pub kept_next :
-      (held before after part : List A) (i : ℕ) (d : A) →
-      i < length part →
-      held ≡ take n (before ++ take i part) →
-      after ≡ take n (held ++ get_or part i d ∷ []) →
-      after ≡ take n (before ++ take (i + 1) part)
-  kept_next held before after part i d l h a =
-      a
-      ∙ ap (λ t. take n (t ++ get_or part i d ∷ [])) h
-      ∙ kept_again (before ++ take i part) (get_or part i d ∷ [])
-      ∙ ap (take n) (append_assoc before (take i part) (get_or part i d ∷ []) ∙ ap (λ t. before ++ t) (sym (take_more part i d l)))
+      let b = length-take-le size more (omega arith) in
+      let front : i ≡ length (take i xs) = omega arith in
+      let all : n ≡ length (take i xs) + (n - i) = omega arith in
+      let same : take size more ≡ take (n - i) more =
+      elim (dec_lt (length more) (n - i)) [
+        | yes k ↦ take_all size more (omega arith) ∙ sym (take_all (n - i) more (omega arith))
+        | no k ↦ let z : size ≡ n - i = omega arith in ap (λ m. take m more) z
+      ] in
+      ap (λ k. take (k + size) (take i xs ++ (take size more ++ rest))) front
+      ∙ take-append-add (take i xs) (take size more ++ rest) size
+      ∙ ap (λ t. take i xs ++ t) (take_at (take size more) rest size b ∙ same)
+      ∙ sym (ap (λ k. take k (take i xs ++ more)) all ∙ take-append-add (take i xs) more (n - i))
 
 -- none of the first bytes is the byte
 abbrev pub FreeBefore : ℕ → List ℕ → ℕ → Type 0
@@ -63,21 +54,6 @@ line_at part i l f e =
       is = sym (take-append-drop i part) ∙ ap (λ t. take i part ++ t) (drop_more part i 0 l ∙ ap (λ b. b ∷ drop (i + 1) part) e);
     }
 
--- one byte more that is not it
-pub free_more : (byte : ℕ) (part : List ℕ) (i : ℕ) → FreeBefore byte part i → (¬ (get_or part i 0 ≡ byte)) → FreeBefore byte part (i + 1)
-free_more byte part i f n k l e =
-    elim (dec_lt k i) [ yes m ↦ f k m e | no m ↦ let at : k ≡ i = omega arith in n (sym (ap (λ j. get_or part j 0) at) ∙ e) ]
-
--- all of the part is taken
-pub all_taken : (part : List ℕ) (i n : ℕ) (before after : List ℕ) → length part ≤ i → after ≡ take n (before ++ take i part) → after ≡ take n (before ++ part)
-all_taken part i n before after l h = h ∙ ap (λ t. take n (before ++ t)) (take_all i part l)
-
--- a line that ends in the part takes a byte or more of it, and no more than it has
-pub taken_within : (before part after : List ℕ) (n : ℕ) → TakesOn before part (Some n) after → (0 < n) × (n ≤ length part)
-taken_within before part after n (more, rest, is_line, size, is) =
-    let e = ap length is_line.is ∙ length-append more (10 ∷ rest) in
-    (omega arith, omega arith)
-
--- and so less is left
-pub less_left : (part : List ℕ) (n : ℕ) → (0 < n) × (n ≤ length part) → length (take (length part - n) (drop n part)) < length part
-less_left part n (some, few) = let e = length-take (length part - n) (drop n part) in omega arith
+-- a line that ends in the part leaves less of it
+pub less_left : (before part after : List ℕ) (rest : Bor (List ℕ)) → TakesOn before part (Some rest) after → length rest.now < length part
+less_left before part after rest (more, is_line, is) = omega (arith, ap length is_line.is, length-append more (10 ∷ rest.now))

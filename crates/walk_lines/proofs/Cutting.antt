@@ -7,7 +7,7 @@ use Rattle.reading.specs.declared.reading.Reading.{Reading}
 use Rattle.lines.specs.declared.fault.LineFault.{LineFault}
 use Rattle.lines.specs.Lines.{PutsLine, too_long, by_words}
 use Rattle.walk_lines.specs.Buffers.{kept}
-use Rattle.walk_lines.specs.declared.verdict.Verdict.{Verdict}
+use Rattle.walk_lines.specs.declared.verdict.Scores.{Scores}
 use Rattle.walk_lines.specs.Verdicts.{LineJudged, word_refused, words_put, JudgedByKept}
 
 module _ (line : List ℕ) (long : 16384 < length line) where
@@ -30,6 +30,6 @@ judged_by_kept g ss chart line v j =
       | no short ↦ subst (λ bytes. LineJudged g ss chart bytes v) (take_all 16385 line (omega arith)) j
     ]
   where
-    of_long : 16384 < length line → (u : Verdict) → LineJudged g ss chart (kept line) u → LineJudged g ss chart line u
+    of_long : 16384 < length line → (u : Result Scores LineFault) → LineJudged g ss chart (kept line) u → LineJudged g ss chart line u
     of_long long u (word_refused fault o p) = word_refused fault o (long_puts line long _ p)
     of_long long u (words_put n o p s w) = absurd (taken_short line long _ n refl p)

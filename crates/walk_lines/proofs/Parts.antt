@@ -1,7 +1,7 @@
 -- Parts of the input, taken line by line. Assumes nothing.
-use Rattle.std.proofs.Common.{◌≡◌, ℕ, ◌+◌, ◌-◌, List, [], ◌∷◌, ◌++◌, length, take, drop, Some, None, sym, refl, ap, ◌∙◌, subst, arith}
+use Rattle.std.proofs.Common.{◌≡◌, ℕ, ◌+◌, ◌-◌, List, [], ◌∷◌, ◌++◌, length, take, drop, Some, None, Bor, sym, refl, ap, ◌∙◌, subst, arith}
 use native.Mathlib.Decide.{dec_lt}
-use Rattle.std.proofs.lemmas.List.{append_assoc, length_push, length-append, get_or_append_left, get_or-append_right, drop_at, take_rest}
+use Rattle.std.proofs.lemmas.List.{append_assoc, length_push, length-append, get_or_append_left, get_or-append_right}
 use Rattle.syntax.specs.Free.{FreeOf}
 use Rattle.file_model.specs.Files.{LineOf}
 use Rattle.walk_lines.specs.declared.session.Session.{Session}
@@ -17,26 +17,18 @@ pub record SameButBuffer (s t : Session) : Type 0 where
   pub chart : t.chart ≡ s.chart
   pub count : t.count ≡ s.count
 
--- what is behind the line
-behind : (part line rest : List ℕ) (n : ℕ) → LineOf part line rest → n ≡ length line + 1 → take (length part - n) (drop n part) ≡ rest
-behind part line rest n l e =
-    take_rest part n
-    ∙ ap (drop n) (l.is ∙ sym (append_assoc line (10 ∷ []) rest))
-    ∙ drop_at (line ++ 10 ∷ []) rest n (length_push line 10 ∙ sym e)
-
 module _ (s t : Session) (part : List ℕ) (same : SameButBuffer s t) where
   gathers : (more : List ℕ) → held t.buffer ≡ kept (held s.buffer ++ more) → Gathers s more t
   gathers more bytes = record { bytes = bytes; grammar = same.grammar; spellings = same.spellings; chart = same.chart; count = same.count }
 
   -- a line ends in the part
   pub took_line :
-      (u v : Session) (r : LineReport) (n : ℕ) →
-      TakesOn (held s.buffer) part (Some n) (held t.buffer) →
+      (u v : Session) (r : LineReport) (rest : Bor (List ℕ)) →
+      TakesOn (held s.buffer) part (Some rest) (held t.buffer) →
       EndsLine t r u →
-      Took u (take (length part - n) (drop n part)) v →
+      Took u rest.now v →
       Took s part v
-  took_line u v r n (line, rest, l, e, bytes) ends (rs, h) =
-      (r ∷ rs, line_ended l (gathers line bytes) ends (subst (λ p. TakesPart u p rs v) (behind part line rest n l e) h))
+  took_line u v r rest (line, l, bytes) ends (rs, h) = (r ∷ rs, line_ended l (gathers line bytes) ends h)
 
   -- none does
   pub took_rest : TakesOn (held s.buffer) part None (held t.buffer) → Took s part t

@@ -1,7 +1,6 @@
 -- What putting a line keeps of a reading. Assumes nothing.
 use Rattle.std.proofs.Common.{◌≡◌, ℕ, List, length, Ok, Err, Result, sym, refl, ◌∙◌, subst, arith}
 use Rattle.syntax.specs.Syntax.{Spelling}
-use Rattle.grammar.specs.Refusals.{number as number_of}
 use Rattle.grammar.specs.declared.refusals.ReadingRefusal.{ReadingRefusal}
 use Rattle.draft.specs.declared.sealed.Grammar.{Grammar as Sealed}
 use Rattle.reading.specs.declared.reading.Reading.{Reading}
@@ -9,8 +8,7 @@ use Rattle.reading.specs.Readings.{Long, Marks, Put, cells}
 use Rattle.lines.specs.declared.fault.LineFault.{LineFault}
 use Rattle.lines.specs.Cuts.{Placed}
 use Rattle.lines.specs.Lines.{PutsWord, unknown, refused, taken, PutsWords, all_put, one_refused, one_put, PutsLine, too_long, by_words}
-use Rattle.walk_lines.specs.declared.verdict.Verdict.{Verdict}
-use Rattle.walk_lines.specs.declared.verdict.Verdict.TheVariants.{Refused}
+use Rattle.walk_lines.specs.declared.verdict.Scores.{Scores}
 use Rattle.walk_lines.specs.Verdicts.{WordsJudged, Opens, LineJudged, word_refused, words_put}
 
 -- the same grammar, as many cells, and a chart that marked the words still does
@@ -46,7 +44,7 @@ line_stays (by_words l cut h) = words_stay h
 module _ (g : Sealed) (ss : List Spelling) (chart line : List ℕ) (r q : Reading) (o : Opens g chart r) where
   -- the words of the line are put
   pub judged_put :
-      (n : ℕ) (v : Verdict) →
+      (n : ℕ) (v : Result Scores LineFault) →
       PutsLine ss line r (Ok n) q →
       ((Long (cells q) → Marks q) → WordsJudged q (length line) v) →
       LineJudged g ss chart line v
@@ -57,6 +55,5 @@ module _ (g : Sealed) (ss : List Spelling) (chart line : List ℕ) (r q : Readin
       words_put n o p (s.grammar ∙ o.grammar) (h (λ l. s.marks (omega arith) (o.opened.marks (omega arith))))
 
   -- a word of the line is refused
-  pub judged_refused :
-      (fault : LineFault) (n : ℕ) → PutsLine ss line r (Err fault) q → n ≡ number_of fault.refusal → LineJudged g ss chart line (Refused n fault.place)
-  judged_refused fault n p e = subst (λ k. LineJudged g ss chart line (Refused k fault.place)) (sym e) (word_refused fault o p)
+  pub judged_refused : (fault : LineFault) → PutsLine ss line r (Err fault) q → LineJudged g ss chart line (Err fault)
+  judged_refused fault p = word_refused fault o p

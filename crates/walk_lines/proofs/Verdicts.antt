@@ -2,12 +2,13 @@
 use Rattle.std.proofs.Common.{◌≡◌, ℕ, Bool, true, false, Ok, Err, Result, sym, refl, ap, ◌∙◌, subst, arith}
 use Rattle.std.proofs.lemmas.Bool.{true≢false}
 use Rattle.grammar.specs.declared.refusals.ReadingRefusal.{ReadingRefusal}
+use Rattle.grammar.specs.declared.refusals.ReadingRefusal.TheVariants.{LineFull, NoKind, NothingBegins, NoWord, NoSentence, ShortChart, ShortListing, ShortTable}
 use Rattle.grammar.specs.declared.refusals.Refusal.TheVariants.{Reading as Layer}
 use Rattle.grammar.specs.Refusals.{number as number_of}
 use Rattle.reading.specs.declared.reading.Reading.{Reading}
 use Rattle.reading.specs.Readings.{Long, Marks, Looked, ScoreCause, chart_too_short, table_too_short, ScoreRefused, cells}
-use Rattle.walk_lines.specs.declared.score_tables.Scores.{Scores}
-use Rattle.walk_lines.specs.declared.verdict.Verdict.TheVariants.{Read, Refused}
+use Rattle.lines.specs.Lines.{fault}
+use Rattle.walk_lines.specs.declared.verdict.Scores.{Scores}
 use Rattle.walk_lines.specs.Verdicts.{TablesShort, BothScores, WordsJudged, chart_short, no_sentence, tables_short, scored}
 
 module _ (r : Reading) where
@@ -21,35 +22,41 @@ module _ (r : Reading) where
   long_tables n m none t = none 16 (table_too_short (omega arith))
 
   -- on a long chart only short tables refuse a score
-  short_cause : (n : ℕ) → ScoreCause r 8000 n → Long (cells r) → (16 ≡ n) × TablesShort r
+  short_cause : (n : ℕ) → ScoreCause r 8000 n → Long (cells r) → (n ≡ 16) × TablesShort r
   short_cause n (chart_too_short h) l = absurd (h l)
   short_cause n (table_too_short h) l = (refl, h)
 
+  -- and they have one refusal
+  short_table : (e : ReadingRefusal) → number_of (Layer e) ≡ 16 → e ≡ ShortTable
+  short_table ShortTable n = refl
+  short_table LineFull n = absurd (omega arith)
+  short_table NoKind n = absurd (omega arith)
+  short_table NothingBegins n = absurd (omega arith)
+  short_table NoWord n = absurd (omega arith)
+  short_table NoSentence n = absurd (omega arith)
+  short_table ShortChart n = absurd (omega arith)
+  short_table ShortListing n = absurd (omega arith)
+
   module _ (end : ℕ) where
     -- a short chart
-    pub judged_short : (e : ReadingRefusal) (n : ℕ) → Looked r (Err e) → n ≡ number_of (Layer e) → WordsJudged r end (Refused n 0)
-    judged_short e n h m =
-        let i : 14 ≡ n = sym (m ∙ ap (λ f. number_of (Layer f)) h.1) in
-        subst (λ k. WordsJudged r end (Refused k 0)) i (chart_short h.0)
+    pub judged_short : (e : ReadingRefusal) → Looked r (Err e) → WordsJudged r end (Err (fault (Layer e) 0))
+    judged_short e h = subst (λ x. WordsJudged r end (Err (fault (Layer x) 0))) (sym h.1) (chart_short h.0)
 
     -- no sentence
-    pub judged_none : (s : Bool) (mask n : ℕ) → Looked r (Ok (s, mask)) → (Long (cells r) → Marks r) → s ≡ false → n ≡ 13 → WordsJudged r end (Refused n end)
-    judged_none s mask n h marks f m =
-        subst (λ k. WordsJudged r end (Refused k end)) (sym m)
-        (no_sentence h.0 (λ t. true≢false (sym ((h.1 (marks h.0)).whole.1 t) ∙ f)))
+    pub judged_none : (s : Bool) (mask : ℕ) → Looked r (Ok (s, mask)) → (Long (cells r) → Marks r) → s ≡ false → WordsJudged r end (Err (fault (Layer NoSentence) end))
+    judged_none s mask h marks f = no_sentence h.0 (λ t. true≢false (sym ((h.1 (marks h.0)).whole.1 t) ∙ f))
 
     -- a sentence for which the tables are too short
     pub judged_unscored :
-        (s : Bool) (mask n : ℕ) (e : ReadingRefusal) →
+        (s : Bool) (mask : ℕ) (e : ReadingRefusal) →
         Looked r (Ok (s, mask)) →
         (Long (cells r) → Marks r) →
         s ≡ true →
         BothScores r (Err e) →
-        n ≡ number_of (Layer e) →
-        WordsJudged r end (Refused n 0)
-    judged_unscored s mask n e h marks t b m =
+        WordsJudged r end (Err (fault (Layer e) 0))
+    judged_unscored s mask e h marks t b =
         let c = short_cause (number_of (Layer e)) b.0 h.0 in
-        subst (λ k. WordsJudged r end (Refused k 0)) (c.0 ∙ sym m) (tables_short h.0 ((h.1 (marks h.0)).whole.0 t) c.1)
+        subst (λ x. WordsJudged r end (Err (fault (Layer x) 0))) (sym (short_table e c.0)) (tables_short h.0 ((h.1 (marks h.0)).whole.0 t) c.1)
 
     -- a sentence with its scores
     pub judged_scored :
@@ -58,7 +65,7 @@ module _ (r : Reading) where
         (Long (cells r) → Marks r) →
         s ≡ true →
         BothScores r (Ok x) →
-        WordsJudged r end (Read x.trees x.price)
+        WordsJudged r end (Ok x)
     judged_scored s mask x h marks t (c, p, long, a, b, i, j) =
-        subst (λ k. WordsJudged r end (Read k x.price)) (sym i)
-        (subst (λ k. WordsJudged r end (Read c.value k)) (sym j) (scored h.0 ((h.1 (marks h.0)).whole.0 t) long a b))
+        subst (λ k. WordsJudged r end (Ok (record { trees = k; price = x.price }))) (sym i)
+        (subst (λ k. WordsJudged r end (Ok (record { trees = c.value; price = k }))) (sym j) (scored h.0 ((h.1 (marks h.0)).whole.0 t) long a b))

@@ -1,5 +1,6 @@
 -- The bytes of a line as they come in parts. Assumes nothing.
-use Rattle.std.specs.Prelude.{◌≡◌, ℕ, ◌+◌, List, ◌++◌, length, take, Some, None, Option}
+use Rattle.std.specs.Prelude.{◌≡◌, ℕ, List, ◌++◌, take, Some, None, Option}
+use Rattle.std.specs.Borrow.{Bor}
 use Rattle.syntax.specs.Free.{FreeOf}
 use Rattle.file_model.specs.Files.{LineOf}
 use Rattle.walk_lines.specs.declared.line_buffer.LineBuffer.{LineBuffer}
@@ -12,8 +13,8 @@ held b = take b.count b.bytes
 abbrev pub kept : List ℕ → List ℕ
 kept = take 16385
 
--- where the bytes before are held of a line that goes on with the part: up to the first line feed, byte 10, with which so many bytes of
--- the part are taken, or to the end of the part
-abbrev pub TakesOn : List ℕ → List ℕ → Option ℕ → List ℕ → Type 0
-TakesOn before part (Some n) after = (more : List ℕ) × (rest : List ℕ) × LineOf part more rest × (n ≡ length more + 1) × (after ≡ kept (before ++ more))
+-- where the bytes before are held of a line that goes on with the part: up to the first line feed, byte 10, behind which the rest of the
+-- part is left, or to the end of the part
+abbrev pub TakesOn : List ℕ → List ℕ → Option (Bor (List ℕ)) → List ℕ → Type 0
+TakesOn before part (Some rest) after = (more : List ℕ) × LineOf part more rest.now × (after ≡ kept (before ++ more))
 TakesOn before part None after = FreeOf 10 part × (after ≡ kept (before ++ part))

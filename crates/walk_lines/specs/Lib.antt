@@ -1,4 +1,3 @@
 pub mod Buffers
-pub mod Reports
 pub mod Sessions
 pub mod Verdicts

@@ -1,8 +1,9 @@
 -- What the program says of a line of words. Assumes nothing.
 use Rattle.std.specs.Prelude.{◌≡◌, ℕ, ◌+◌, ◌*◌, ◌<◌, List, ◌++◌, length, Ok, Err, codes, decimal, Result}
 use Rattle.grammar.specs.declared.refusals.ReadingRefusal.{ReadingRefusal}
+use Rattle.grammar.specs.declared.refusals.ReadingRefusal.TheVariants.{NoSentence, ShortChart, ShortTable}
+use Rattle.grammar.specs.declared.refusals.Refusal.TheVariants.{Reading as Layer}
 use Rattle.grammar.specs.Grammar.{places}
-use Rattle.grammar.specs.Refusals.{number as number_of}
 use Rattle.theory.specs.Claims.{Sentence}
 use Rattle.scales.specs.ThreeScales.{count, price}
 use Rattle.scales.specs.declared.values.Count.{Count}
@@ -13,11 +14,9 @@ use Rattle.syntax.specs.Syntax.{Spelling}
 use Rattle.reading.specs.declared.reading.Reading.{Reading}
 use Rattle.reading.specs.Readings.{Long, Opened, ScoreRefused, words, cells, grammar_of}
 use Rattle.lines.specs.declared.fault.LineFault.{LineFault}
-use Rattle.lines.specs.Lines.{PutsLine}
+use Rattle.lines.specs.Lines.{PutsLine, fault, fault_report}
 use Rattle.walk_lines.specs.Buffers.{kept}
-use Rattle.walk_lines.specs.declared.score_tables.Scores.{Scores}
-use Rattle.walk_lines.specs.declared.verdict.Verdict.{Verdict}
-use Rattle.walk_lines.specs.declared.verdict.Verdict.TheVariants.{Read, Refused}
+use Rattle.walk_lines.specs.declared.verdict.Scores.{Scores}
 use Rattle.walk_lines.specs.declared.verdict.LineReport.{LineReport}
 
 -- a table of 8,000 entries has too few for the places of the productions and the spans of the words
@@ -33,10 +32,10 @@ BothScores r (Err e) = ScoreRefused r 8000 (Err e)
 
 -- what the words that stand are, of a line that ends at the place: 14 at 0 on a short chart; else 13 at the end where they are no
 -- sentence; else 16 at 0 where the tables are too short; else the count and the smallest price of their trees
-pub data WordsJudged (r : Reading) (end : ℕ) : Verdict → Type 0 where
-  chart_short : (¬ Long (cells r)) → WordsJudged r end (Refused 14 0)
-  no_sentence : Long (cells r) → (¬ Sentence (grammar_of r) (words r)) → WordsJudged r end (Refused 13 end)
-  tables_short : Long (cells r) → Sentence (grammar_of r) (words r) → TablesShort r → WordsJudged r end (Refused 16 0)
+pub data WordsJudged (r : Reading) (end : ℕ) : Result Scores LineFault → Type 0 where
+  chart_short : (¬ Long (cells r)) → WordsJudged r end (Err (fault (Layer ShortChart) 0))
+  no_sentence : Long (cells r) → (¬ Sentence (grammar_of r) (words r)) → WordsJudged r end (Err (fault (Layer NoSentence) end))
+  tables_short : Long (cells r) → Sentence (grammar_of r) (words r) → TablesShort r → WordsJudged r end (Err (fault (Layer ShortTable) 0))
   scored :
       {c : Count} {p : Price} →
       Long (cells r) →
@@ -44,7 +43,7 @@ pub data WordsJudged (r : Reading) (end : ℕ) : Verdict → Type 0 where
       (¬ TablesShort r) →
       Score count (grammar_of r) (words r) c →
       Score price (grammar_of r) (words r) p →
-      WordsJudged r end (Read c.value p.value)
+      WordsJudged r end (Ok (record { trees = c.value; price = p.value }))
 
 -- the reading was opened on the grammar and the chart
 pub record Opens (g : Sealed) (chart : List ℕ) (r : Reading) : Type 0 where
@@ -52,30 +51,34 @@ pub record Opens (g : Sealed) (chart : List ℕ) (r : Reading) : Type 0 where
   pub grammar : r.grammar.now ≡ g
 
 -- what a line is, put word by word from an opened reading on: the refusal of a word, or what its words are by the same grammar
-pub data LineJudged (g : Sealed) (ss : List Spelling) (chart line : List ℕ) : Verdict → Type 0 where
+pub data LineJudged (g : Sealed) (ss : List Spelling) (chart line : List ℕ) : Result Scores LineFault → Type 0 where
   word_refused :
-      {r q : Reading} (fault : LineFault) →
+      {r q : Reading} (f : LineFault) →
       Opens g chart r →
-      PutsLine ss line r (Err fault) q →
-      LineJudged g ss chart line (Refused (number_of fault.refusal) fault.place)
+      PutsLine ss line r (Err f) q →
+      LineJudged g ss chart line (Err f)
   words_put :
-      {r q : Reading} (n : ℕ) {v : Verdict} →
+      {r q : Reading} (n : ℕ) {v : Result Scores LineFault} →
       Opens g chart r →
       PutsLine ss line r (Ok n) q →
       q.grammar.now ≡ g →
       WordsJudged q (length line) v →
       LineJudged g ss chart line v
 
--- the line that is printed
-abbrev pub said : Verdict → List ℕ
-said (Read trees cheapest) = codes " ok trees " ++ (decimal trees ++ (codes " price " ++ decimal cheapest))
-said (Refused number place) = codes " refused " ++ (decimal number ++ (codes " at " ++ decimal place))
+-- what is printed of words with scores
+abbrev pub scores_report : Scores → List ℕ
+scores_report s = codes "ok trees " ++ (decimal s.trees ++ (codes " price " ++ decimal s.price))
 
--- the number of the line before it
+-- what is printed of a line
+abbrev pub said : Result Scores LineFault → List ℕ
+said (Ok scores) = scores_report scores
+said (Err f) = fault_report f
+
+-- the line that is printed, with the number of the line first
 abbrev pub line_report : LineReport → List ℕ
-line_report r = decimal r.line ++ said r.verdict
+line_report r = decimal r.line ++ (codes " " ++ said r.verdict)
 
 -- the bytes that are kept of a line are judged as the whole line is, whatever follows them
 abbrev pub JudgedByKept : Type 0
 JudgedByKept =
-    (g : Sealed) (ss : List Spelling) (chart line : List ℕ) (v : Verdict) → LineJudged g ss chart (kept line) v → LineJudged g ss chart line v
+    (g : Sealed) (ss : List Spelling) (chart line : List ℕ) (v : Result Scores LineFault) → LineJudged g ss chart (kept line) v → LineJudged g ss chart line v

@@ -3,6 +3,7 @@ ghost use Rattle.std.specs.Prelude.{◌≡◌, ◌≤◌, length};
 mod methods;
 
 // The first bytes of a line that is being read, at most 16,385: a line that has more than 16,384 is refused whatever follows them.
+// In memory of fixed size, so that a line may have any length.
 #[derive(Drop)]
 pub struct LineBuffer {
     bytes: [u8; 16385],

@@ -2,33 +2,17 @@
 
 #![tactic(auto)]
 
-ghost use Rattle.std.specs.Prelude.{◌≡◌};
-
 mod input_laws;
 mod judging;
 mod line_buffer;
-mod outcome;
 mod score_tables;
 mod session;
 mod verdict;
 
-use files::spelled::SpelledDraft;
-use outcome::{Outcome, read_book};
+use reports::input::{open_book, reported};
 use session::Session;
+use std::io;
 use std::io::{BufWriter, Read, Write};
-use std::{fs, io};
-
-const BOOK: &str = "book.rbk";
-
-// Hands on what was read; where that is an error, says on standard error what can't be read.
-fn reported<T>(rt: &HostRuntime, name: &str, read: io::Result<T>) -> io::Result<T>
-    ensures { result ≡ read }
-{
-    if let Err(error) = &read {
-        let _ = eprintln!(rt; "{name} can't be read: {error}");
-    }
-    read
-}
 
 // Reads standard input part by part, and writes what each line is.
 fn read_lines<W: io::Write>(
@@ -49,13 +33,9 @@ fn read_lines<W: io::Write>(
 }
 
 fn main(rt: HostRuntime) -> io::Result<()> {
-    let text = reported(&rt, BOOK, fs::read(&rt, BOOK))?;
-    let mut book = SpelledDraft::new();
-    let outcome = read_book(&mut book, text.as_slice());
-    println!(rt; "{outcome}")?;
-    if let Outcome::Refused { .. } = outcome {
+    let Some(book) = open_book(&rt)? else {
         return Ok(());
-    }
+    };
     let mut session = Session::new(book);
     let mut out = BufWriter::new(rt.alloc(), rt.stdout())?;
     read_lines(&rt, &mut session, &mut out)?;

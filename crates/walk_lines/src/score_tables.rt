@@ -12,10 +12,3 @@ pub struct ScoreTables {
     ghost count_room: { length counts ≡ 8000 },
     ghost price_room: { length prices ≡ 8000 },
 }
-
-// How many trees words have, and the smallest price of one.
-#[derive(Clone, Copy)]
-pub struct Scores {
-    pub trees: u32,
-    pub price: u32,
-}

@@ -1,20 +1,30 @@
 ghost use Rattle.std.specs.Prelude.{Some};
-ghost use Rattle.walk_lines.specs.Verdicts.{line_report};
+ghost use Rattle.walk_lines.specs.Verdicts.{line_report, scores_report};
 
+use lines::fault::LineFault;
 use std::fmt;
 
-// What a line of words is.
-#[derive(Drop)]
-pub enum Verdict {
-    Read { trees: u32, price: u32 },
-    Refused { number: u8, place: usize },
+// How many trees words have, and the smallest price of one.
+#[derive(Clone, Copy, PartialEq, Eq, Debug)]
+pub struct Scores {
+    pub trees: u32,
+    pub price: u32,
 }
 
-// A verdict with the number of its line, which counts from 1.
-#[derive(Drop)]
+impl fmt::Display for Scores {
+    ghost output = { λ s. Some (scores_report s) };
+
+    fn fmt<W: fmt::Write>(&self, f: &mut fmt::Formatter<W>) -> fmt::Result {
+        let Scores { trees, price } = self;
+        write!(f, "ok trees {trees} price {price}")
+    }
+}
+
+// What a line of words is, with the number of the line, which counts from 1.
+#[derive(Clone, Copy, PartialEq, Eq, Debug)]
 pub struct LineReport {
     pub line: u64,
-    pub verdict: Verdict,
+    pub verdict: Result<Scores, LineFault>,
 }
 
 impl fmt::Display for LineReport {
@@ -23,8 +33,8 @@ impl fmt::Display for LineReport {
     fn fmt<W: fmt::Write>(&self, f: &mut fmt::Formatter<W>) -> fmt::Result {
         let line = self.line;
         match &self.verdict {
-            Verdict::Read { trees, price } => write!(f, "{line} ok trees {trees} price {price}"),
-            Verdict::Refused { number, place } => write!(f, "{line} refused {number} at {place}"),
+            Ok(scores) => write!(f, "{line} {scores}"),
+            Err(fault) => write!(f, "{line} {fault}"),
         }
     }
 }

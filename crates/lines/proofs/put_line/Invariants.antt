@@ -1,4 +1,4 @@
-use Rattle.std.proofs.Common.{ℕ, ◌-◌, ◌≤◌, List, length, drop, Result}
+use Rattle.std.proofs.Common.{ℕ, List, drop, Result}
 use Rattle.reading.specs.declared.reading.Reading.{Reading}
 use Rattle.spellings.specs.Model.{words}
 use Rattle.lines.specs.declared.fault.LineFault.{LineFault}
@@ -8,11 +8,7 @@ use Rattle.lines.proofs.put_line.Given as goal
 
 abbrev pub invariant-loop-word : goal.invariant-loop-word
 invariant-loop-word l =
-    (l.from ≤ length l.line)
-    × ((ws : List Placed) (a : Result ℕ LineFault) (q : Reading) →
-    Cuts l.from (drop l.from l.line) ws →
+    (ws : List Placed) (a : Result ℕ LineFault) (q : Reading) →
+    Cuts l.word-iterator.from (drop l.word-iterator.from l.word-iterator.line.now) ws →
     PutsWords (words l.spellings) l.reading ws a q →
-    (vs : List Placed) × Cuts 0 l.line vs × PutsWords (words l.spellings) l.initial.reading vs a q)
-
-abbrev pub decreases-loop-word : goal.decreases-loop-word
-decreases-loop-word l = length l.line - l.from
+    (vs : List Placed) × Cuts 0 l.line vs × PutsWords (words l.spellings) l.initial.reading vs a q

@@ -1,9 +1,19 @@
-ghost use Rattle.std.specs.Prelude.{◌≡◌, [], ◌∷◌, ◌++◌};
+ghost use Rattle.std.specs.Prelude.{◌≡◌, ℕ, ◌<◌, [], ◌++◌, length, slice_index};
+ghost use Rattle.std.specs.Option.{MatchOption};
+ghost use Rattle.syntax.specs.Free.{FreeOf};
 ghost use Rattle.walk_lines.specs.Buffers.{held, kept, TakesOn};
 
 use super::LineBuffer;
 
-const LINE_FEED: u8 = 10;
+const LINE_FEED: u8 = b'\n';
+
+// Where the first line feed of the bytes is.
+fn line_feed(part: &[u8]) -> Option<usize>
+    ensures { MatchOption result (FreeOf 10 part.now)
+        (λ end. (end < length part.now) × (slice_index part.now end ≡ 10) × ((k : ℕ) → k < end → ¬ (slice_index part.now k ≡ 10))) }
+{
+    part.iter().position(|byte| *byte == LINE_FEED)
+}
 
 impl LineBuffer {
     // A buffer that holds no bytes.
@@ -20,7 +30,7 @@ impl LineBuffer {
     pub(crate) fn line(&self) -> &[u8]
         ensures { result.now ≡ held self.now }
     {
-        &self.bytes[0..self.count]
+        &self.bytes[..self.count]
     }
 
     // Forgets the bytes.
@@ -30,26 +40,25 @@ impl LineBuffer {
         self.count = 0;
     }
 
-    // Takes a byte of the line, which is kept if there is room.
-    fn push(&mut self, byte: u8)
-        ensures { held self.new ≡ kept (held self.old ++ byte ∷ []) }
+    // Takes bytes of the line, and keeps as many as there is room for.
+    fn extend(&mut self, more: &[u8])
+        ensures { held self.new ≡ kept (held self.old ++ more.now) }
     {
-        if self.count < 16385 {
-            self.bytes[self.count] = byte;
-            self.count += 1;
-        }
+        let size = more.len().min(16385 - self.count);
+        let end = self.count + size;
+        self.bytes[self.count..end].copy_from_slice(&more[..size]);
+        self.count = end;
     }
 
-    // Takes bytes of the line up to a line feed. Where one comes the line ends, and the answer is how many bytes that took, with it.
-    pub(crate) fn take(&mut self, part: &[u8]) -> Option<usize>
+    // Takes bytes of the line up to a line feed. Where one comes the line ends, and the answer is the rest of the part, behind it.
+    pub(crate) fn take<'p>(&mut self, part: &'p [u8]) -> Option<&'p [u8]>
         ensures { TakesOn (held self.old) part.now result (held self.new) }
     {
-        for i in 0..part.len() {
-            if part[i] == LINE_FEED {
-                return Some(i + 1);
-            }
-            self.push(part[i]);
-        }
-        None
+        let Some(end) = line_feed(part) else {
+            self.extend(part);
+            return None;
+        };
+        self.extend(&part[..end]);
+        Some(&part[end + 1..])
     }
 }

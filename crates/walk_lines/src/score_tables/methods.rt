@@ -1,6 +1,7 @@
 ghost use Rattle.walk_lines.specs.Verdicts.{BothScores};
 
-use super::{ScoreTables, Scores};
+use super::ScoreTables;
+use crate::verdict::Scores;
 use grammar::refusals::ReadingRefusal;
 use reading::reading::Reading;
 use scales::values::{Count, Price};

@@ -58,8 +58,8 @@ impl Session {
         ensures { OnOk result (Took self.old part.now self.new) }
     {
         let mut rest = part;
-        while let Some(taken) = self.buffer.take(rest) {
-            rest = &rest[taken..];
+        while let Some(behind) = self.buffer.take(rest) {
+            rest = behind;
             let report = self.end_line();
             writeln!(out, "{report}")?;
         }
@@ -70,7 +70,7 @@ impl Session {
     pub(crate) fn finish<W: io::Write>(&mut self, out: &mut W) -> io::Result<()>
         ensures { OnOk result (Finishes self.old self.new) }
     {
-        if self.buffer.line().len() > 0 {
+        if !self.buffer.line().is_empty() {
             let report = self.end_line();
             writeln!(out, "{report}")?;
         }

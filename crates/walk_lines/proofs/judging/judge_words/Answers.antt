@@ -2,12 +2,11 @@ use Rattle.walk_lines.proofs.Verdicts.{judged_short, judged_none, judged_unscore
 use Rattle.walk_lines.proofs.judging.judge_words.Goals as goal
 
 pub returns-in-Err : goal.returns-in-Err
-returns-in-Err c marks = judged_short c.args.reading.now c.args.end _ _ c.in-Err.ensures c.number.ensures
+returns-in-Err c marks = rw c.of_words.ensures (judged_short c.args.reading.now c.args.end _ c.in-Err.ensures)
 
 pub returns-then-not-sentence : goal.returns-then-not-sentence
 returns-then-not-sentence c marks =
-    judged_none c.args.reading.now c.args.end c.in-Ok.sentence c.in-Ok.field-0-1 _ c.in-Ok.ensures marks c.if-not-sentence.true
-    c.number-then-not-sentence.ensures
+    rw c.of_words-then-not-sentence.ensures (judged_none c.args.reading.now c.args.end c.in-Ok.sentence c.in-Ok.field-0-1 c.in-Ok.ensures marks c.if-not-sentence.true)
 
 pub returns-in-Ok-scores : goal.returns-in-Ok-scores
 returns-in-Ok-scores c marks =
@@ -16,5 +15,6 @@ returns-in-Ok-scores c marks =
 
 pub returns-in-Err-scores : goal.returns-in-Err-scores
 returns-in-Err-scores c marks =
-    judged_unscored c.args.reading.now c.args.end c.in-Ok.sentence c.in-Ok.field-0-1 _ c.in-Err-scores.refusal c.in-Ok.ensures marks
-    c.if-not-sentence.false c.in-Err-scores.ensures c.number-in-Err-scores.ensures
+    rw c.of_words-in-Err-scores.ensures
+    (judged_unscored c.args.reading.now c.args.end c.in-Ok.sentence c.in-Ok.field-0-1 c.in-Err-scores.refusal c.in-Ok.ensures marks
+    c.if-not-sentence.false c.in-Err-scores.ensures)

@@ -1,0 +1,92 @@
+ghost use Rattle.std.specs.Prelude.{◌<◌};
+
+use super::Forest;
+use crate::position::{Position, Span};
+use crate::trees::Trees;
+use std::alloc::AllocError;
+
+// How many steps the count of trees may go down. Where no nonterminal leads to itself, a way down a tree of n words has
+// at most 16 × (n + 1) nodes: its spans have at most n + 1 lengths, and on spans of one length each nonterminal stands
+// at most once. At a node the count passes at most six symbols before it goes down. A line has at most 48 words.
+const STEPS: u32 = 7 * 16 * 49;
+
+impl<'b> Forest<'b> {
+    // The trees of the production over the span.
+    #[cycle(trees)]
+    fn trees_of(&mut self, production: u8, span: Span, steps: u32) -> Result<Trees, AllocError> {
+        if let Some(trees) = self.known.get(&(production, span)) {
+            return Ok(*trees);
+        }
+        let trees = self.trees_from(Position::first(production), span, steps)?;
+        self.known.insert((production, span), trees)?;
+        Ok(trees)
+    }
+
+    // The trees over the span that may stand at the position.
+    #[cycle(trees)]
+    fn trees_at(&mut self, at: Position, span: Span, steps: u32) -> Result<Trees, AllocError> {
+        let book = self.book;
+        let mut all = Trees::NONE;
+        for child in book.children(at) {
+            all = all.or(self.trees_of(*child, span, steps)?);
+        }
+        Ok(all)
+    }
+
+    // The ways in which the nonterminal at the position and the symbols behind it stand over the span, at the price of
+    // the production.
+    #[cycle(trees)]
+    fn trees_split(&mut self, at: Position, span: Span, steps: u32) -> Result<Trees, AllocError>
+        requires { at.index < 6 }
+    {
+        let mut all = Trees::NONE;
+        let Some(fewest) = self.book.fewest_from(at.next()) else {
+            return Ok(all);
+        };
+        for middle in span.from..=span.to {
+            // the symbols behind stand over no fewer words than that
+            if fewest <= span.to - middle {
+                let first = self.trees_at(at, span.ending(middle), steps)?;
+                if !first.is_none() {
+                    let rest = self.trees_from(at.next(), span.starting(middle), steps)?;
+                    all = all.or(first.and(rest));
+                }
+            }
+        }
+        Ok(all)
+    }
+
+    // The ways in which the symbols at the position and behind it stand over the span, at the price of the production.
+    #[cycle(trees)]
+    fn trees_from(&mut self, at: Position, span: Span, steps: u32) -> Result<Trees, AllocError> {
+        if steps == 0 {
+            return Ok(Trees::NONE);
+        }
+        match self.book.symbol(at) {
+            None if span.from == span.to => Ok(Trees::one(self.book.price(at.production))),
+            None => Ok(Trees::NONE),
+            Some(nonterminal) if nonterminal < 16 => self.trees_split(at, span, steps - 1),
+            Some(kind) if span.from < span.to && self.has(span.from, kind) => {
+                self.trees_from(at.next(), span.starting(span.from + 1), steps - 1)
+            }
+            Some(_) => Ok(Trees::NONE),
+        }
+    }
+
+    // Whether there is a tree over the span that may stand at the position.
+    pub(crate) fn can_stand(&mut self, at: Position, span: Span) -> Result<bool, AllocError> {
+        let trees = self.trees_at(at, span, STEPS)?;
+        Ok(!trees.is_none())
+    }
+
+    // The trees of the grammar over the words.
+    pub(crate) fn trees(&mut self) -> Result<Trees, AllocError> {
+        let book = self.book;
+        let span = self.span();
+        let mut all = Trees::NONE;
+        for root in (1..=32).filter(|number| book.is_root(*number)) {
+            all = all.or(self.trees_of(root, span, STEPS)?);
+        }
+        Ok(all)
+    }
+}

@@ -1,0 +1,24 @@
+-- What the programs say of a book. Assumes nothing.
+use Rattle.std.specs.Prelude.{◌≡◌, ℕ, List, ◌++◌, length, Ok, Err, Result, codes, decimal}
+use Rattle.grammar.specs.Refusals.{number as number_of}
+use Rattle.file_model.specs.declared.fault.Fault.{Fault}
+use Rattle.file_model.specs.Spelled.{Spelled}
+use Rattle.file_model.specs.Files.{Reads}
+use Rattle.reports.specs.declared.summary.Summary.{Summary}
+
+-- reading the text as a grammar file leaves the spelled grammar, with so many productions and rules, or refuses it with this fault
+abbrev pub OutcomeOf : List ℕ → Spelled → Result Summary Fault → Type 0
+OutcomeOf text s (Ok x) = Reads text (Ok x.version) s × (x.productions ≡ length s.draft.productions) × (x.rules ≡ length s.draft.rules)
+OutcomeOf text s (Err f) = Reads text (Err f) s
+
+-- some text is a grammar file that is read as the spelled grammar
+abbrev pub SomeBook : Spelled → Type 0
+SomeBook s = (text : List ℕ) × (x : Summary) × OutcomeOf text s (Ok x)
+
+-- the line that is printed of a book that is read
+abbrev pub report : Summary → List ℕ
+report s = codes "RBK " ++ (decimal s.version ++ (codes " productions " ++ (decimal s.productions ++ (codes " rules " ++ decimal s.rules))))
+
+-- the line that is printed of a text that is refused
+abbrev pub refusal_report : Fault → List ℕ
+refusal_report f = codes "book refused " ++ (decimal (number_of f.refusal) ++ (codes " line " ++ decimal f.line))

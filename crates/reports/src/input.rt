@@ -1,0 +1,46 @@
+ghost use Rattle.std.specs.Prelude.{◌≡◌, IfOk, IfSome, Ok};
+ghost use Rattle.files.specs.Model.{model};
+ghost use Rattle.reports.specs.Reports.{SomeBook};
+
+use crate::summary::{RefusedBook, read_book};
+use files::spelled::SpelledDraft;
+use std::io::Read;
+use std::{fs, io};
+
+const BOOK: &str = "book.rbk";
+
+// Hands on what was read; where that is an error, says on standard error what can't be read.
+pub fn reported<T>(rt: &HostRuntime, name: &str, read: io::Result<T>) -> io::Result<T>
+    ensures { result ≡ read }
+{
+    if let Err(error) = &read {
+        let _ = eprintln!(rt; "{name} can't be read: {error}");
+    }
+    read
+}
+
+// Reads the grammar file in the current folder, and prints what it is; none where it is refused.
+pub fn open_book(rt: &HostRuntime) -> io::Result<Option<SpelledDraft>>
+    ensures { IfOk result (λ opened. IfSome opened (λ book. SomeBook (model book))) }
+{
+    let text = reported(rt, BOOK, fs::read(rt, BOOK))?;
+    let mut book = SpelledDraft::new();
+    match read_book(&mut book, text.as_slice()) {
+        Ok(summary) => {
+            println!(rt; "{summary}")?;
+            Ok(Some(book))
+        }
+        Err(fault) => {
+            let refused = RefusedBook { fault };
+            println!(rt; "{refused}")?;
+            Ok(None)
+        }
+    }
+}
+
+// All that standard input has.
+pub fn read_input(rt: &HostRuntime) -> io::Result<Vec<u8>> {
+    let mut input = Vec::new(rt.alloc());
+    rt.stdin().read_to_end(&mut input)?;
+    Ok(input)
+}
