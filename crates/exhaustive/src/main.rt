@@ -16,9 +16,9 @@ mod words;
 use book::Book;
 use fault::LineError;
 use files::spelled::SpelledDraft;
-use reports::input::{open_book, read_input};
+use reports::input::{BOOK, print_book, read_input};
 use spellings::spellings::Spellings;
-use std::io;
+use std::{fs, io};
 use verdict::verdict_of;
 
 // Prints a line's number and what the line is.
@@ -53,7 +53,8 @@ fn print_lines(
 }
 
 fn main(rt: HostRuntime) -> io::Result<()> {
-    let Some(SpelledDraft { draft, spellings }) = open_book(&rt)? else {
+    let text = fs::read(&rt, BOOK)?;
+    let Some(SpelledDraft { draft, spellings }) = print_book(&rt, text.as_slice())? else {
         return Ok(());
     };
     let book = Book::new(rt.alloc(), draft)?;

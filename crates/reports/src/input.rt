@@ -7,7 +7,8 @@ use files::spelled::SpelledDraft;
 use std::io::Read;
 use std::{fs, io};
 
-const BOOK: &str = "book.rbk";
+// The name of the grammar file.
+pub const BOOK: &str = "book.rbk";
 
 // Hands on what was read; where that is an error, says on standard error what can't be read.
 pub fn reported<T>(rt: &HostRuntime, name: &str, read: io::Result<T>) -> io::Result<T>
@@ -19,13 +20,12 @@ pub fn reported<T>(rt: &HostRuntime, name: &str, read: io::Result<T>) -> io::Res
     read
 }
 
-// Reads the grammar file in the current folder, and prints what it is; none where it is refused.
-pub fn open_book(rt: &HostRuntime) -> io::Result<Option<SpelledDraft>>
+// Reads the text as a grammar file, and prints what it is; none where it is refused.
+pub fn print_book(rt: &HostRuntime, text: &[u8]) -> io::Result<Option<SpelledDraft>>
     ensures { IfOk result (λ opened. IfSome opened (λ book. SomeBook (model book))) }
 {
-    let text = reported(rt, BOOK, fs::read(rt, BOOK))?;
     let mut book = SpelledDraft::new();
-    match read_book(&mut book, text.as_slice()) {
+    match read_book(&mut book, text) {
         Ok(summary) => {
             println!(rt; "{summary}")?;
             Ok(Some(book))
@@ -36,6 +36,15 @@ pub fn open_book(rt: &HostRuntime) -> io::Result<Option<SpelledDraft>>
             Ok(None)
         }
     }
+}
+
+// Reads the grammar file in the current folder, and prints what it is; none where it is refused. Says on standard error
+// where it can't be read.
+pub fn open_book(rt: &HostRuntime) -> io::Result<Option<SpelledDraft>>
+    ensures { IfOk result (λ opened. IfSome opened (λ book. SomeBook (model book))) }
+{
+    let text = reported(rt, BOOK, fs::read(rt, BOOK))?;
+    print_book(rt, text.as_slice())
 }
 
 // All that standard input has.
