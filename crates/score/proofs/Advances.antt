@@ -14,17 +14,6 @@ module _ {S : Type 0} (s : Scale S) (x : Input) where
   pub fills_none : (t : List S) (a : ℕ) → Fills s x t t a a
   fills_none t a = record { size = refl; later = λ k d l. refl; right = λ start rs W given r. r }
 
-  pub fills_then : (t u v : List S) (a b c : ℕ) → Fills s x t u a b → Fills s x u v b c → Fills s x t v a c
-  fills_then t u v a b c f h = record {
-    size = h.size ∙ f.size;
-    later = λ k d l. h.later k d l ∙ f.later k d l;
-    right = λ start rs W given r. h.right start rs W given (f.right start rs W given r);
-  }
-
-  -- the same where what the sums are taken over is known to be the same
-  pub fills_next : (y : Input) (t u v : List S) (a b c : ℕ) → y ≡ x → Fills s x t u a b → Fills s y u v b c → Fills s x t v a c
-  fills_next y t u v a b c e f h = fills_then t u v a b c f (subst (λ z. Fills s z u v b c) e h)
-
   -- stages that no entry has are passed over
   pub fills_on :
       (t u : List S) (a b c : ℕ) → Fills s x t u a b →

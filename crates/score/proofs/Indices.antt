@@ -1,5 +1,5 @@
 -- Entries of a table in three coordinates: they lie in it, and no two are one.
-use Rattle.std.proofs.Common.{◌≡◌, ℕ, suc, ◌+◌, ◌*◌, ◌<◌, ◌≤◌, ap, ⊎_elim, mul-le-mul_right, mul-le-mul, arith}
+use Rattle.std.proofs.Common.{◌≡◌, ℕ, suc, ◌+◌, ◌*◌, ◌<◌, ◌≤◌, ap, ⊎_elim, mul-le-mul_right, arith}
 use Rattle.std.proofs.lemmas.Nat.{mul-add-lt}
 use Rattle.std.proofs.lemmas.Bool.{cases_order}
 use Rattle.score.specs.Filled.{entry_at}
@@ -32,10 +32,3 @@ entry_unique n d i j e k l li lj lk ll eq =
     let u = row_unique ((n + 1) * (n + 1)) d (i * (n + 1) + j) e (k * (n + 1) + l) a b (omega arith) in
     let v = row_unique (n + 1) i j k l (omega arith) (omega arith) u.1 in
     (u.0, v.0, v.1)
-
--- what the index is at most
-pub square_low : (n : ℕ) → n ≤ 48 → (n + 1) * (n + 1) ≤ 2401
-square_low n l = let a : n + 1 ≤ 49 = omega arith in mul-le-mul a a
-
-pub table_low : (n P : ℕ) → n ≤ 48 → P ≤ 128 → P * ((n + 1) * (n + 1)) ≤ 307328
-table_low n P l h = mul-le-mul h (square_low n l)

@@ -1,6 +1,6 @@
 -- Tables of a grammar place its productions as they stand.
-use Rattle.std.proofs.Common.{◌≡◌, zero, suc, ◌+◌, List, ap, subst, arith}
-use Rattle.grammar.specs.Grammar.{Production, Grammar, Known}
+use Rattle.std.proofs.Common.{◌≡◌, zero, suc, ◌+◌, ap, arith}
+use Rattle.grammar.specs.Grammar.{Grammar, Known}
 use Rattle.tables.specs.declared.tables.Tables.{Tables}
 use Rattle.tables.specs.Meaning.{Means}
 use Rattle.tables.specs.Places.{first_place, Firsts}
@@ -17,7 +17,3 @@ firsts_meant t g m (suc p) l =
     let n : p + 1 ≡ suc p = omega arith in
     let s : first_place g.productions (p + 1) ≡ first_place g.productions (suc p) = ap (first_place g.productions) n in
     omega arith
-
--- the same for the productions as another list has them
-pub firsts_of : (t : Tables) (g : Grammar) (ps : List Production) → Means t g → g.productions ≡ ps → Firsts ps t.first
-firsts_of t g ps m e = subst (λ qs. Firsts qs t.first) e (firsts_meant t g m)

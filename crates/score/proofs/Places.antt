@@ -2,14 +2,13 @@
 use Rattle.std.proofs.Common.{◌≡◌, ℕ, ◌+◌, ◌<◌, ◌≤◌, List, length, get_or, sym, ap, ◌∙◌, arith}
 use Rattle.std.proofs.lemmas.List.{get_or-map}
 use Rattle.grammar.specs.declared.production.Production.{Production as Stored}
-use Rattle.grammar.specs.Grammar.{Production, no_production, production_at, left_at, right_at, places}
+use Rattle.grammar.specs.Grammar.{Production, no_production, production_at, right_at, places}
 use Rattle.grammar.specs.Model.{production, productions}
 use Rattle.tables.proofs.Counting.{last_low, place_unique, stored_at}
-use Rattle.score.specs.Filled.{entry_at}
 use Rattle.score.specs.Inputs.{productions_in, words_in, Inside, HasEntry, place_in, index_in, entries_in}
 use Rattle.score.specs.declared.input.Input.{Input}
 use Rattle.score.specs.declared.entry.Entry.{Entry}
-use Rattle.score.proofs.Indices.{entry_low, entry_unique, table_low}
+use Rattle.score.proofs.Indices.{entry_low, entry_unique}
 
 module _ (x : Input) where
   pub place_low : (p k : ℕ) → p < length (productions_in x) → k ≤ length (right_at (productions_in x) p) → place_in x p k < places (productions_in x)
@@ -33,34 +32,13 @@ module _ (x : Input) where
       let v = place_unique (productions_in x) p k q l h.0 h.1 t.0 t.1 u.0 in
       (v.0, v.1, u.1, u.2)
 
-  -- the place as the tables have it
-  pub first_low :
-      (p k : ℕ) → p < length (productions_in x) → k ≤ length (right_at (productions_in x) p) →
-      get_or x.tables.now.first p 0 + k < 128
-  first_low p k kp lk = let a = place_low p k kp lk in let b = x.firsts p kp in let c = x.small in omega arith
-
-  -- the index by it
-  pub read_low :
-      (p k i j : ℕ) → Inside x p k i j → entry_at (length (words_in x)) (get_or x.tables.now.first p 0 + k) i j < 307328
-  read_low p k i j h =
-      let n = length (words_in x) in
-      let a = entry_low n 128 (get_or x.tables.now.first p 0 + k) i j (first_low p k h.0 h.1) h.2 h.3 in
-      let b = table_low n 128 x.few_words (omega arith) in
-      omega arith
-
 -- what the methods of a stored production answer
 module _ (ps : List Stored) (q : ℕ) (d : Stored) (l : q < length (productions ps)) where
   read_at : production (get_or ps q d) ≡ production_at (productions ps) q
   read_at = sym (get_or-map production ps q d no_production (stored_at ps q l))
-
-  pub read_left : (v : ℕ) → v ≡ (production (get_or ps q d)).left → v ≡ left_at (productions ps) q
-  read_left v e = e ∙ ap (λ (p : Production). p.left) read_at
 
   pub read_right : (v : List ℕ) → v ≡ (production (get_or ps q d)).right → v ≡ right_at (productions ps) q
   read_right v e = e ∙ ap (λ (p : Production). p.right) read_at
 
   pub read_places : (v : ℕ) → v ≡ length (production (get_or ps q d)).right + 1 → v ≡ length (right_at (productions ps) q) + 1
   read_places v e = e ∙ ap (λ (p : Production). length p.right + 1) read_at
-
-  pub read_price : (v : ℕ) → v ≡ (production (get_or ps q d)).price → v ≡ (production_at (productions ps) q).price
-  read_price v e = e ∙ ap (λ (p : Production). p.price) read_at

@@ -1,6 +1,4 @@
-use Rattle.std.proofs.Common.{◌≡◌, ℕ, ◌<◌, List, length, arith, ap, subst, rules}
-use Rattle.std.proofs.lemmas.List.{length-map}
-use Rattle.grammar.specs.Model.{production}
+use Rattle.std.proofs.Common.{◌≡◌, ℕ, ◌<◌, List, length, ap, subst, rules}
 use Rattle.score_theory.proofs.Weighing.{weights}
 use Rattle.score.proofs.Scored.{scored}
 use Rattle.scales.specs.Scales.{Scale}
