@@ -40,8 +40,8 @@ pub fn play<S: Semiring>(
     ensures history { (cs : List Call) (xs : List Plain) → History cs xs reading.old → History (cs ++ take result calls.now) (xs ++ map plain (take result answers.new)) reading.new }
 {
     let count = calls.len().min(answers.len());
-    for i in 0..count {
-        answers[i] = make(reading, calls[i], records, table);
+    for (i, call) in calls[..count].iter().enumerate() {
+        answers[i] = make(reading, *call, records, table);
     }
     count
 }

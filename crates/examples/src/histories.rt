@@ -9,6 +9,7 @@ use grammar::refusals::ReadingRefusal;
 use grammar::refusals::ReadingRefusal::NothingBegins;
 use grammar::rule::Relation;
 use listing_theory::record::Record;
+use reading::look::Look;
 use reading::reading::Reading;
 use scales::values::Count;
 use std::process::Abort;
@@ -49,9 +50,9 @@ fn standing(answer: Result<u8, ReadingRefusal>) -> usize {
 }
 
 // Twice the kinds that a look saw, and 1 more at a sentence, or its refusal.
-fn seen(answer: Result<(bool, u32), ReadingRefusal>) -> usize {
+fn seen(answer: Result<Look, ReadingRefusal>) -> usize {
     match answer {
-        Ok((sentence, kinds)) => kinds as usize * 2 + usize::from(sentence),
+        Ok(look) => look.kinds as usize * 2 + usize::from(look.sentence),
         Err(refusal) => refused(refusal),
     }
 }
@@ -75,8 +76,7 @@ fn counted(answer: Result<Count, ReadingRefusal>) -> usize {
 // An answer as one number.
 fn outcome(answer: Answer<Count>) -> usize {
     match answer {
-        Answer::Put(answer) => standing(answer),
-        Answer::TakenBack(answer) => standing(answer),
+        Answer::Put(answer) | Answer::TakenBack(answer) => standing(answer),
         Answer::Looked(answer) => seen(answer),
         Answer::Listed(answer) => listed(answer),
         Answer::Scored(answer) => counted(answer),
@@ -111,8 +111,8 @@ fn editor_and_cartridge(rt: HostRuntime) {
         11
     );
     let expected = [1012, 1, 7, 2, 1013, 1, 2, 1011, 3, 3, 1, 77];
-    for k in 0..12 {
-        assert_eq!(rt; outcome(answers[k]), expected[k]);
+    for (answer, number) in answers.iter().zip(&expected) {
+        assert_eq!(rt; outcome(*answer), *number);
     }
     let cartridge_grammar = shuffled(&rt);
     let mut cartridge_chart = [0u64; 4802];

@@ -4,6 +4,7 @@ use files::spelled::SpelledDraft;
 use grammar::refusals::ReadingRefusal;
 use grammar::refusals::ReadingRefusal::{LineFull, NoKind, NoWord, NothingBegins, ShortChart};
 use reading::chart_fits;
+use reading::look::Look;
 use reading::reading::Reading;
 use std::process::Abort;
 
@@ -40,8 +41,15 @@ pub(crate) fn put_all(reading: &mut Reading, kinds: &[u8]) -> Result<u8, Reading
     Ok(count)
 }
 
+// The sum of the cells.
+fn sum_of(cells: &[u64]) -> u64 {
+    cells
+        .iter()
+        .fold(0, |sum: u64, cell| sum.saturating_add(*cell))
+}
+
 // What the first look after these kinds answers.
-fn look_after(grammar: &Grammar, kinds: &[u8]) -> Result<(bool, u32), ReadingRefusal> {
+fn look_after(grammar: &Grammar, kinds: &[u8]) -> Result<Look, ReadingRefusal> {
     let mut chart = [7u64; 4802];
     let mut reading = Reading::open(grammar, &mut chart);
     put_all(&mut reading, kinds)?;
@@ -51,12 +59,33 @@ fn look_after(grammar: &Grammar, kinds: &[u8]) -> Result<(bool, u32), ReadingRef
 #[test]
 fn conditions_looked_at(rt: HostRuntime) {
     let grammar = conditions(&rt);
-    assert_eq!(rt; look_after(&grammar, &[]), Ok((false, 44)));
-    assert_eq!(rt; look_after(&grammar, &[21]), Ok((true, 3)));
-    assert_eq!(rt; look_after(&grammar, &[19, 21]), Ok((false, 19)));
+    assert_eq!(rt;
+        look_after(&grammar, &[]),
+        Ok(Look {
+            sentence: false,
+            kinds: 44
+        })
+    );
+    assert_eq!(rt;
+        look_after(&grammar, &[21]),
+        Ok(Look {
+            sentence: true,
+            kinds: 3
+        })
+    );
+    assert_eq!(rt;
+        look_after(&grammar, &[19, 21]),
+        Ok(Look {
+            sentence: false,
+            kinds: 19
+        })
+    );
     assert_eq!(rt;
         look_after(&grammar, &[21, 17, 18, 21, 16, 21]),
-        Ok((true, 3))
+        Ok(Look {
+            sentence: true,
+            kinds: 3
+        })
     );
     assert_eq!(rt; look_after(&grammar, &[21, 21]), Err(NothingBegins));
     assert_eq!(rt; look_after(&grammar, &[20]), Err(NothingBegins));
@@ -73,11 +102,29 @@ fn words_put_and_taken_back(rt: HostRuntime) {
     assert_eq!(rt; reading.put(16), Err(NothingBegins));
     assert_eq!(rt; reading.put(21), Ok(1));
     assert_eq!(rt; reading.put(16), Ok(2));
-    assert_eq!(rt; reading.look(), Ok((false, 44)));
+    assert_eq!(rt;
+        reading.look(),
+        Ok(Look {
+            sentence: false,
+            kinds: 44
+        })
+    );
     assert_eq!(rt; reading.take_back(), Ok(1));
-    assert_eq!(rt; reading.look(), Ok((true, 3)));
+    assert_eq!(rt;
+        reading.look(),
+        Ok(Look {
+            sentence: true,
+            kinds: 3
+        })
+    );
     assert_eq!(rt; reading.take_back(), Ok(0));
-    assert_eq!(rt; reading.look(), Ok((false, 44)));
+    assert_eq!(rt;
+        reading.look(),
+        Ok(Look {
+            sentence: false,
+            kinds: 44
+        })
+    );
 }
 
 #[test]
@@ -86,9 +133,21 @@ fn forty_eight_words(rt: HostRuntime) {
     let mut chart = [0u64; 4802];
     let mut reading = Reading::open(&grammar, &mut chart);
     assert_eq!(rt; put_all(&mut reading, &[16; 47]), Ok(47));
-    assert_eq!(rt; reading.look(), Ok((true, 1)));
+    assert_eq!(rt;
+        reading.look(),
+        Ok(Look {
+            sentence: true,
+            kinds: 1
+        })
+    );
     assert_eq!(rt; reading.put(16), Ok(48));
-    assert_eq!(rt; reading.look(), Ok((true, 0)));
+    assert_eq!(rt;
+        reading.look(),
+        Ok(Look {
+            sentence: true,
+            kinds: 0
+        })
+    );
     assert_eq!(rt; reading.put(16), Err(LineFull));
     assert_eq!(rt; reading.put(0), Err(LineFull));
     assert_eq!(rt; reading.take_back(), Ok(47));
@@ -103,12 +162,7 @@ fn short_charts(rt: HostRuntime) {
     assert_eq!(rt; reading.put(0), Err(ShortChart));
     assert_eq!(rt; reading.take_back(), Err(ShortChart));
     assert_eq!(rt; reading.look(), Err(ShortChart));
-    let cells = reading.end();
-    let mut sum = 0u64;
-    for cell in cells.iter() {
-        sum = sum.saturating_add(*cell);
-    }
-    assert_eq!(rt; sum, 7 * 4801);
+    assert_eq!(rt; sum_of(reading.end()), 7 * 4801);
 }
 
 // The places of A = "a" A are 0, 1 and 2, those of A = "a" are 3 and 4. On nothing both begin at 0; after one word both
@@ -126,9 +180,5 @@ fn cells(rt: HostRuntime) {
     assert_eq!(rt; cells[98], 18);
     assert_eq!(rt; cells[100], 9);
     assert_eq!(rt; cells[4802], 7);
-    let mut sum = 0u64;
-    for cell in cells.iter() {
-        sum = sum.saturating_add(*cell);
-    }
-    assert_eq!(rt; sum, 9 + 18 + 9 + 7);
+    assert_eq!(rt; sum_of(cells), 9 + 18 + 9 + 7);
 }

@@ -5,8 +5,21 @@ use grammar::refusals::ReadingRefusal;
 use grammar::refusals::ReadingRefusal::{ShortChart, ShortTable};
 use grammar::rule::Relation;
 use reading::reading::Reading;
+use scales::Semiring;
 use scales::values::{Count, Price, YesNo};
 use std::process::Abort;
+
+// The score of the kinds on the scale of the table's values.
+fn score_after<S: Semiring>(
+    grammar: &Grammar,
+    kinds: &[u8],
+    table: &mut [S],
+) -> Result<S, ReadingRefusal> {
+    let mut chart = [0u64; 4802];
+    let mut reading = Reading::open(grammar, &mut chart);
+    put_all(&mut reading, kinds)?;
+    reading.score(table)
+}
 
 // How many trees the kinds have.
 fn count_after(
@@ -14,10 +27,7 @@ fn count_after(
     kinds: &[u8],
     table: &mut [Count],
 ) -> Result<u32, ReadingRefusal> {
-    let mut chart = [0u64; 4802];
-    let mut reading = Reading::open(grammar, &mut chart);
-    put_all(&mut reading, kinds)?;
-    Ok(reading.score(table)?.value)
+    Ok(score_after(grammar, kinds, table)?.value)
 }
 
 // The smallest price of a tree of the kinds.
@@ -26,10 +36,7 @@ fn price_after(
     kinds: &[u8],
     table: &mut [Price],
 ) -> Result<u32, ReadingRefusal> {
-    let mut chart = [0u64; 4802];
-    let mut reading = Reading::open(grammar, &mut chart);
-    put_all(&mut reading, kinds)?;
-    Ok(reading.score(table)?.value)
+    Ok(score_after(grammar, kinds, table)?.value)
 }
 
 // The grammar of A = A A and A = "a".
@@ -107,8 +114,8 @@ fn entries(rt: HostRuntime) {
     let expected = [
         1, 0, 0, 1, 0, 1, 0, 0, 0, 0, 0, 0, 1, 0, 0, 1, 0, 1, 0, 0, 7,
     ];
-    for k in 0..21 {
-        assert_eq!(rt; table[k].value, expected[k]);
+    for (entry, value) in table.iter().zip(&expected) {
+        assert_eq!(rt; entry.value, *value);
     }
     assert_eq!(rt; table.len(), 21);
 }
@@ -121,8 +128,8 @@ fn short_tables(rt: HostRuntime) {
     assert_eq!(rt; count_after(&grammar, &[16], &mut enough), Ok(1));
     let mut short = [Count { value: 7 }; 19];
     assert_eq!(rt; count_after(&grammar, &[16], &mut short), Err(ShortTable));
-    for k in 0..19 {
-        assert_eq!(rt; short[k].value, 7);
+    for entry in &short {
+        assert_eq!(rt; entry.value, 7);
     }
     assert_eq!(rt; count_after(&grammar, &[], &mut short), Ok(0));
 }
