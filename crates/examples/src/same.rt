@@ -64,7 +64,7 @@ fn same_spelling(a: &Spellings, b: &Spellings, kind: u8) -> bool {
     let Some(w) = b.spelling_of(kind) else {
         return false;
     };
-    v.same(&w)
+    v == w
 }
 
 // Whether every reader gives the same answers for the two spelled drafts.
