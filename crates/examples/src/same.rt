@@ -45,11 +45,7 @@ pub(crate) fn copy_of(rt: &impl Abort, draft: &Draft) -> Draft {
 
 // Whether the kind has the same spelling in both, or none in either.
 fn same_spelling(a: &Spellings, b: &Spellings, kind: u8) -> bool {
-    match (a.spelling_of(kind), b.spelling_of(kind)) {
-        (Some(v), Some(w)) => v.same(&w),
-        (None, None) => true,
-        _ => false,
-    }
+    a.spelling_of(kind) == b.spelling_of(kind)
 }
 
 // Whether every reader gives the same answers for the two spelled drafts.

@@ -25,10 +25,10 @@ abbrev pub CutsLeft : List ℕ → Option (ℕ × Bor (List ℕ)) → Type 0
 CutsLeft line (Some r) = (r.0 < 16) × (line ≡ (65 + r.0) ∷ 32 ∷ 61 ∷ 32 ∷ r.1.now)
 CutsLeft line None = (left : ℕ) (rest : List ℕ) → left < 16 → ¬ (line ≡ (65 + left) ∷ 32 ∷ 61 ∷ 32 ∷ rest)
 
--- the byte between two spaces and what follows them, or that the text does not begin so
+-- the byte before a space and what follows the space, or that the text does not begin so
 abbrev pub CutsSign : List ℕ → Option (ℕ × Bor (List ℕ)) → Type 0
-CutsSign text (Some r) = text ≡ 32 ∷ r.0 ∷ 32 ∷ r.1.now
-CutsSign text None = (sign : ℕ) (rest : List ℕ) → ¬ (text ≡ 32 ∷ sign ∷ 32 ∷ rest)
+CutsSign text (Some r) = text ≡ r.0 ∷ 32 ∷ r.1.now
+CutsSign text None = (sign : ℕ) (rest : List ℕ) → ¬ (text ≡ sign ∷ 32 ∷ rest)
 
 -- the numbers and the relation of a rule line, or that the line is none
 abbrev pub ReadsRule : List ℕ → Option (ℕ × Relation × ℕ) → Type 0

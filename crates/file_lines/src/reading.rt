@@ -2,7 +2,7 @@ ghost use Rattle.std.specs.Prelude.{◌≡◌, true, false};
 ghost use Rattle.file_lines.specs.Reading.{ReadsMark, ReadsStart, CutsWord, CutsLeft, CutsSign, ReadsRule, SemicolonAt};
 
 use grammar::rule::Relation;
-use syntax::reading::{part_end, read_number, read_relation};
+use syntax::reading::{cut_at, read_number, read_relation};
 
 // What follows the first line, with its mark and version; none where the text does not begin with that line.
 pub fn read_mark(text: &[u8]) -> Option<&[u8]>
@@ -54,12 +54,12 @@ pub fn cut_left(line: &[u8]) -> Option<(u8, &[u8])>
     }
 }
 
-// The sign byte between two spaces and what follows them; none where the text does not begin so.
+// The sign byte before a space and what follows the space; none where the text does not begin so.
 fn cut_sign(text: &[u8]) -> Option<(u8, &[u8])>
     ensures { CutsSign text.now result }
 {
     match text {
-        [b' ', sign, b' ', rest @ ..] => Some((*sign, rest)),
+        [sign, b' ', rest @ ..] => Some((*sign, rest)),
         _ => None,
     }
 }
@@ -68,11 +68,11 @@ fn cut_sign(text: &[u8]) -> Option<(u8, &[u8])>
 pub fn read_rule(line: &[u8]) -> Option<(u16, Relation, u16)>
     ensures { ReadsRule line.now result }
 {
-    let end = part_end(line, 0);
-    let upper = read_number(&line[0..end])?;
-    let (sign, number) = cut_sign(&line[end..])?;
+    let (first, rest) = cut_at(line, b' ')?;
+    let (sign, last) = cut_sign(rest)?;
+    let upper = read_number(first)?;
     let relation = read_relation(sign)?;
-    let lower = read_number(number)?;
+    let lower = read_number(last)?;
     Some((upper, relation, lower))
 }
 

@@ -1,3 +1,4 @@
 pub mod LineForms
 pub mod TextLines
 pub mod Written
+pub mod Faults

@@ -9,43 +9,38 @@ ghost use Rattle.files.specs.Reading.{IsWord, IsProduction, IsRule, ReadsAs};
 use crate::spelled::SpelledDraft;
 use file_lines::reading::{cut_left, cut_word, read_mark, read_rule, read_start};
 use file_model::fault::Fault;
-use grammar::refusals::{DraftRefusal, FileRefusal, Refusal};
+use grammar::bytes::Bytes;
+use grammar::refusals::{FileRefusal, Refusal};
 use spellings::reading::read_right;
-use spellings::right::Right;
-use syntax::reading::{line_end, read_spelling};
+use spellings::right::RightFault;
+use syntax::reading::{cut_at, read_spelling};
 
 impl SpelledDraft {
     // Declares the spelling of a word line, from what stands behind `word` and its space.
     fn read_word(&mut self, part: &[u8]) -> Result<(), Refusal>
         ensures { ReadsAs IsWord (model self.old) (119 ∷ 111 ∷ 114 ∷ 100 ∷ 32 ∷ part.now) result (model self.new) }
     {
-        let Some(word) = read_spelling(part) else {
-            return Err(Refusal::File(FileRefusal::Form));
-        };
-        match self.spellings.declare(word) {
-            Ok(_) => Ok(()),
-            Err(refusal) => Err(Refusal::File(refusal)),
-        }
+        let word = read_spelling(part).ok_or(FileRefusal::Form)?;
+        self.spellings.declare(word)?;
+        Ok(())
     }
 
     // Adds the production of a production line whose right side was read.
-    fn add_line(&mut self, left: u8, right: &Right, price: u16) -> Result<(), Refusal>
+    fn add_line(
+        &mut self,
+        left: u8,
+        right: Result<Bytes<6>, RightFault>,
+        price: u16,
+    ) -> Result<(), Refusal>
         requires { left < 16 }
         ensures { (ss : List Symbol) →
             ValidSymbols ss →
-            Gathers (words self.old.spellings) ss right.now →
+            Gathers (words self.old.spellings) ss right →
             Does (model self.old) (production_line left ss price) result (model self.new) }
     {
-        if right.undeclared() {
-            return Err(Refusal::File(FileRefusal::Undeclared));
-        }
-        let Some(symbols) = right.symbols() else {
-            return Err(Refusal::Draft(DraftRefusal::LongRight));
-        };
-        match self.draft.add_production(left, symbols, price) {
-            Ok(_) => Ok(()),
-            Err(refusal) => Err(Refusal::Draft(refusal)),
-        }
+        let symbols = right?;
+        self.draft.add_production(left, symbols.as_slice(), price)?;
+        Ok(())
     }
 
     // Adds the production of a production line, from its left nonterminal and what stands behind its sign =.
@@ -53,23 +48,17 @@ impl SpelledDraft {
         requires { left < 16 }
         ensures { ReadsAs IsProduction (model self.old) ((65 + left) ∷ 32 ∷ 61 ∷ 32 ∷ text.now) result (model self.new) }
     {
-        let Some(priced) = read_right(text, &self.spellings) else {
-            return Err(Refusal::File(FileRefusal::Form));
-        };
-        self.add_line(left, &priced.right, priced.price)
+        let priced = read_right(text, &self.spellings).ok_or(FileRefusal::Form)?;
+        self.add_line(left, priced.right, priced.price)
     }
 
     // Adds the rule of a line that can only be a rule line.
     fn read_rule_line(&mut self, line: &[u8]) -> Result<(), Refusal>
         ensures { ReadsAs IsRule (model self.old) line.now result (model self.new) }
     {
-        let Some((upper, relation, lower)) = read_rule(line) else {
-            return Err(Refusal::File(FileRefusal::Form));
-        };
-        match self.draft.add_rule(upper, relation, lower) {
-            Ok(_) => Ok(()),
-            Err(refusal) => Err(Refusal::Draft(refusal)),
-        }
+        let (upper, relation, lower) = read_rule(line).ok_or(FileRefusal::Form)?;
+        self.draft.add_rule(upper, relation, lower)?;
+        Ok(())
     }
 
     // Does what a line behind the second says.
@@ -90,19 +79,16 @@ impl SpelledDraft {
         requires { length text.now ≤ 16384 }
         ensures { ReadsFrom 3 (model self.old) text.now result (model self.new) }
     {
-        let mut at = 0;
+        let mut rest = text;
         let mut line = 3;
-        while at < text.len() {
-            let Some(end) = line_end(text, at) else {
-                return Err(Fault {
-                    refusal: Refusal::File(FileRefusal::Form),
-                    line,
-                });
+        while !rest.is_empty() {
+            let Some((form, behind)) = cut_at(rest, b'\n') else {
+                return Err(Fault::in_file(FileRefusal::Form, line));
             };
-            if let Err(refusal) = self.read_line(&text[at..end]) {
+            if let Err(refusal) = self.read_line(form) {
                 return Err(Fault { refusal, line });
             }
-            at = end + 1;
+            rest = behind;
             line += 1;
         }
         Ok(1)
@@ -114,22 +100,13 @@ impl SpelledDraft {
     {
         *self = SpelledDraft::new();
         if text.len() > 16384 {
-            return Err(Fault {
-                refusal: Refusal::File(FileRefusal::Form),
-                line: 0,
-            });
+            return Err(Fault::in_file(FileRefusal::Form, 0));
         }
         let Some(rest) = read_mark(text) else {
-            return Err(Fault {
-                refusal: Refusal::File(FileRefusal::Mark),
-                line: 1,
-            });
+            return Err(Fault::in_file(FileRefusal::Mark, 1));
         };
         let Some((symbol, body)) = read_start(rest) else {
-            return Err(Fault {
-                refusal: Refusal::File(FileRefusal::Form),
-                line: 2,
-            });
+            return Err(Fault::in_file(FileRefusal::Form, 2));
         };
         let _ = self.draft.set_start(symbol);
         self.read_lines(body)

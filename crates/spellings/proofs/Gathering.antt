@@ -1,7 +1,9 @@
 -- The symbols of a right side, one by one. Assumes nothing.
-use Rattle.std.proofs.Common.{◌≡◌, ℕ, zero, suc, ◌<◌, ◌≤◌, false, List, [], ◌∷◌, ◌++◌, length, get_or, take, sym, refl, ap, ◌∙◌, subst, inl, inr, ⊎_elim, arith}
+use Rattle.std.proofs.Common.{ℕ, zero, suc, ◌<◌, ◌≤◌, List, [], ◌∷◌, ◌++◌, length, get_or, Err, sym, refl, ap, subst, inl, inr, ⊎_elim, arith}
+use Rattle.std.proofs.lemmas.List.{length_push}
 use Rattle.syntax.specs.Syntax.{Spelling, Symbol, nonterminal, spelled, ValidSymbol, ValidSymbols}
-use Rattle.spellings.specs.declared.right.Right.{Right}
+use Rattle.spellings.specs.declared.right.RightFault.{RightFault}
+use Rattle.spellings.specs.declared.right.RightFault.TheVariants.{Undeclared as Missing, Long}
 use Rattle.spellings.specs.Reading.{Gathers}
 use Rattle.file_model.specs.Spelled.{StandsFor, RightSide, Unknown, Undeclared}
 
@@ -19,6 +21,15 @@ pub undeclared_last : (ws : List Spelling) (ss : List Symbol) (s : Symbol) → U
 undeclared_last ws [] s u = inl u
 undeclared_last ws (t ∷ ss) s u = inr (undeclared_last ws ss s u)
 
+-- a fault of the symbols before stays one
+pub fault_more :
+    (ws : List Spelling) (ss : List Symbol) (s : Symbol) (x : ℕ) (fault : RightFault) →
+    StandsFor ws s x →
+    Gathers ws ss (Err fault) →
+    Gathers ws (ss ++ s ∷ []) (Err fault)
+fault_more ws ss s x Missing h u = undeclared_more ws ss s u
+fault_more ws ss s x Long h l = (l.0 ++ x ∷ [], right_push ws ss l.0 s x l.1 h, omega (arith, length_push l.0 x))
+
 -- a symbol that stands for a written one is in range
 pub stands_in_range : (ws : List Spelling) → length ws ≤ 32 → (s : Symbol) (x : ℕ) → ValidSymbol s → StandsFor ws s x → x < 48
 stands_in_range ws few (nonterminal t) x v h = omega (arith, h)
@@ -34,13 +45,3 @@ right_in_range ws few (s ∷ ss) xs v r k h =
     at_cons : (x : ℕ) (xs : List ℕ) → x < 48 → ((i : ℕ) → i < length xs → get_or xs i 0 < 48) → (i : ℕ) → i < length (x ∷ xs) → get_or (x ∷ xs) i 0 < 48
     at_cons x xs a b zero h = a
     at_cons x xs a b (suc i) h = b i (omega arith)
-
--- the symbols that were kept are the right side
-pub gathered :
-    (ws : List Spelling) (ss : List Symbol) (right : Right) (xs : List ℕ) →
-    Gathers ws ss right →
-    right.undeclared ≡ false →
-    right.count ≤ 6 →
-    xs ≡ take right.count right.symbols →
-    RightSide ws ss xs
-gathered ws ss right xs g f few e = let o = g.stands f in subst (RightSide ws ss) (o.2 few ∙ sym e) o.1

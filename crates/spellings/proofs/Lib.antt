@@ -1,3 +1,4 @@
 pub mod Gathering
 pub mod Words
 pub mod Written
+pub mod Items

@@ -2,3 +2,4 @@ pub mod Stored
 pub mod Model
 pub mod Reading
 pub mod Writing
+pub mod Faults

@@ -1,14 +1,18 @@
 -- What reading the right side of a production line answers. Assumes nothing.
-use Rattle.std.specs.Prelude.{◌≡◌, ℕ, ◌<◌, ◌≤◌, true, false, List, length, take, Some, None, Option}
+use Rattle.std.specs.Prelude.{◌≡◌, ℕ, ◌<◌, ◌≤◌, List, length, Ok, Err, Result, Some, None, Option}
+use Rattle.grammar.specs.declared.bytes.Bytes.{Bytes}
+use Rattle.grammar.specs.Bytes.{items}
 use Rattle.syntax.specs.Syntax.{Spelling, Symbol, ValidSymbols, spaced, right_parts}
-use Rattle.file_model.specs.Spelled.{RightSide, Undeclared}
+use Rattle.file_model.specs.Spelled.{RightSide, Undeclared as SomeUndeclared}
 use Rattle.spellings.specs.declared.right.PricedRight.{PricedRight}
-use Rattle.spellings.specs.declared.right.Right.{Right}
+use Rattle.spellings.specs.declared.right.RightFault.{RightFault}
+use Rattle.spellings.specs.declared.right.RightFault.TheVariants.{Undeclared, Long}
 
--- what is kept of the written symbols of a right side: whether all are declared, and then the symbols, or that there are more than six
-pub record Gathers (ws : List Spelling) (symbols : List Symbol) (right : Right) : Type 0 where
-  pub missing : right.undeclared ≡ true → Undeclared ws symbols
-  pub stands : right.undeclared ≡ false → (xs : List ℕ) × RightSide ws symbols xs × (right.count ≤ 6 → xs ≡ take right.count right.symbols) × (6 < right.count → 6 < length xs)
+-- what is kept of the written symbols of a right side: the symbols, that some are not declared, or that all are and there are more than six
+abbrev pub Gathers : List Spelling → List Symbol → Result (Bytes 6) RightFault → Type 0
+Gathers ws symbols (Ok right) = RightSide ws symbols (items right)
+Gathers ws symbols (Err Undeclared) = SomeUndeclared ws symbols
+Gathers ws symbols (Err Long) = (xs : List ℕ) × RightSide ws symbols xs × (6 < length xs)
 
 -- the right side and the price of a production line, as they stand behind its sign =
 abbrev pub ReadsRight : List Spelling → List ℕ → Option PricedRight → Type 0

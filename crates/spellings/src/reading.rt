@@ -1,26 +1,49 @@
+ghost use Rattle.std.specs.Prelude.{List, [], ◌∷◌, ◌++◌};
+ghost use Rattle.syntax.specs.Model.{symbol};
+ghost use Rattle.syntax.specs.Syntax.{Symbol as Written};
 ghost use Rattle.spellings.specs.Model.{words};
-ghost use Rattle.spellings.specs.Reading.{ReadsRight};
+ghost use Rattle.spellings.specs.Reading.{Gathers, ReadsRight};
 
-use crate::right::{PricedRight, Right};
+use crate::right::{PricedRight, RightFault};
 use crate::spellings::Spellings;
 use file_lines::reading::at_semicolon;
-use syntax::reading::{part_end, read_number, read_symbol};
+use grammar::bytes::Bytes;
+use syntax::reading::{cut_at, read_number, read_symbol};
+use syntax::spelling::Symbol;
+
+// What is kept of a right side with one symbol more; a symbol that is not declared is told before a right side that is too long.
+fn gather(
+    kept: Result<Bytes<6>, RightFault>,
+    written: &Symbol,
+    spellings: &Spellings,
+) -> Result<Bytes<6>, RightFault>
+    ensures { (ss : List Written) →
+        Gathers (words spellings.now) ss kept →
+        Gathers (words spellings.now) (ss ++ symbol written.now ∷ []) result }
+{
+    let Some(symbol) = spellings.resolve(written) else {
+        return Err(RightFault::Undeclared);
+    };
+    let mut right = kept?;
+    if right.is_full() {
+        return Err(RightFault::Long);
+    }
+    right.push(symbol);
+    Ok(right)
+}
 
 // The right side and the price of a production line, from what stands behind its sign =; none where that has no such form.
 pub fn read_right(text: &[u8], spellings: &Spellings) -> Option<PricedRight>
     ensures { ReadsRight (words spellings.now) text.now result }
 {
-    let mut right = Right::new();
-    let mut at = 0;
-    while !at_semicolon(&text[at..]) {
-        let end = part_end(text, at);
-        if end == text.len() {
-            return None;
-        }
-        let symbol = read_symbol(&text[at..end])?;
-        right.push(&symbol, spellings);
-        at = end + 1;
+    let mut right = Ok(Bytes::empty());
+    let mut rest = text;
+    while !at_semicolon(rest) {
+        let (part, behind) = cut_at(rest, b' ')?;
+        let symbol = read_symbol(part)?;
+        right = gather(right, &symbol, spellings);
+        rest = behind;
     }
-    let price = read_number(&text[at + 2..])?;
+    let price = read_number(&rest[2..])?;
     Some(PricedRight { right, price })
 }

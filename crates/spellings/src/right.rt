@@ -1,21 +1,32 @@
-ghost use Rattle.std.specs.Prelude.{◌≡◌, ◌≤◌, length};
+ghost use Rattle.std.specs.Prelude.{◌≡◌};
+ghost use Rattle.spellings.specs.Faults.{refusal};
 
-mod methods;
+use grammar::bytes::Bytes;
+use grammar::refusals::{DraftRefusal, FileRefusal, Refusal};
 
-// The right side of a production line as far as it is needed: the first six symbols, how many there are, where 7 stands
-// for any more than six, and whether a spelling was not declared.
-#[derive(Clone, Copy)]
-pub struct Right {
-    symbols: [u8; 6],
-    count: usize,
-    undeclared: bool,
-    ghost room: { length symbols ≡ 6 },
-    ghost few: { count ≤ 7 },
+// Why a right side is no list of symbols for a production: a spelling that is not declared, or more than six symbols.
+#[derive(Clone, Copy, PartialEq, Eq, Debug)]
+pub enum RightFault {
+    Undeclared,
+    Long,
 }
 
-// What stands behind a production line's sign =: the right side and the price.
+// What stands behind a production line's sign =: the symbols of the right side, or why there are none, and the price.
 #[derive(Clone, Copy)]
 pub struct PricedRight {
-    pub right: Right,
+    pub right: Result<Bytes<6>, RightFault>,
     pub price: u16,
+}
+
+impl From<RightFault> for Refusal {
+    ghost from_gives = { λ fault r. r ≡ refusal fault };
+
+    fn from(fault: RightFault) -> Refusal
+        ensures { result ≡ refusal fault }
+    {
+        match fault {
+            RightFault::Undeclared => Refusal::File(FileRefusal::Undeclared),
+            RightFault::Long => Refusal::Draft(DraftRefusal::LongRight),
+        }
+    }
 }

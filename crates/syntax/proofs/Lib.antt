@@ -1,7 +1,7 @@
 pub mod Numbers
 pub mod Stored
 pub mod Unique
-pub mod Writes
 pub mod Free
 pub mod Lines
 pub mod Splits
+pub mod Writes

@@ -1,8 +1,10 @@
 -- Bytes that are written one after the other into a text of a fixed length.
-use Rattle.std.proofs.Common.{◌≡◌, ℕ, ◌+◌, ◌<◌, ◌≤◌, List, [], ◌∷◌, ◌++◌, length, get_or, take, drop, set, Ok, Err, Result, sym, refl, ap, ◌∙◌, subst, add-zero, arith, length-append, length-set}
-use Rattle.std.proofs.lemmas.List.{append-nil, append_assoc, set_at, set_past, take_more, drop_all, length_push, length-take-le, take-append-drop}
+use Rattle.std.proofs.Common.{◌≡◌, ℕ, ◌+◌, ◌≤◌, List, [], ◌∷◌, ◌++◌, length, take, drop, set, IsErrAnd, Ok, Err, Result, sym, refl, ap, ◌∙◌, subst, add-zero, arith, length-append, length-set}
+use Rattle.std.proofs.lemmas.List.{append-nil, append_assoc, set_at, set_past, drop_all, length_push, length-take-le, length-drop, take-append-drop}
+use Rattle.std.proofs.lemmas.Result.{err_from_is_err_and}
 use Rattle.grammar.specs.declared.refusals.FileRefusal.{FileRefusal}
-use Rattle.syntax.specs.Writing.{overlaid, Writes}
+use Rattle.syntax.specs.declared.text.TextWriter.{TextWriter}
+use Rattle.syntax.specs.Writing.{overlaid, Wrote, Writes}
 
 pub length_overlaid : (b : List ℕ) (at : ℕ) (xs : List ℕ) → length (overlaid b at xs) ≡ length b
 unfolding overlaid
@@ -33,66 +35,98 @@ overlaid_past b at (x ∷ xs) h = ap (λ c. overlaid c (at + 1) xs) (set_past b 
 pub overlaid_full : (b : List ℕ) (at : ℕ) (xs ys : List ℕ) → length b ≤ at + length xs → overlaid b at (xs ++ ys) ≡ overlaid b at xs
 overlaid_full b at xs ys h = overlaid_append b at xs ys ∙ overlaid_past (overlaid b at xs) (at + length xs) ys (omega (arith, length_overlaid b at xs))
 
--- one byte more
-pub overlaid_step :
-    (b : List ℕ) (at : ℕ) (xs : List ℕ) (i : ℕ) →
-    i < length xs →
-    set (overlaid b at (take i xs)) (at + i) (get_or xs i 0) ≡ overlaid b at (take (i + 1) xs)
-overlaid_step b at xs i h =
-    let n = length-take-le i xs (omega arith) in
-    sym (
-    ap (overlaid b at) (take_more xs i 0 h)
-    ∙ overlaid_append b at (take i xs) (get_or xs i 0 ∷ [])
-    ∙ ap (λ k. overlaid (overlaid b at (take i xs)) (at + k) (get_or xs i 0 ∷ [])) n
-    ∙ overlaid_one (overlaid b at (take i xs)) (at + i) (get_or xs i 0))
-
 -- the front of the bytes that has room, written, is all that is written
 pub overlaid_front : (b : List ℕ) (at : ℕ) (xs : List ℕ) (i : ℕ) → i ≤ length xs → length b ≤ at + i → overlaid b at (take i xs) ≡ overlaid b at xs
 overlaid_front b at xs i h l =
     let n = length-take-le i xs h in
     sym (overlaid_full b at (take i xs) (drop i xs) (omega arith)) ∙ ap (overlaid b at) (take-append-drop i xs)
 
+behind :
+    (w u v : TextWriter) (xs ys : List ℕ) (a : Result (Unit {0}) FileRefusal) →
+    Wrote w xs u →
+    u.end ≡ w.end + length xs →
+    overlaid u.out.now u.end ys ≡ overlaid w.out.now w.end (xs ++ ys) →
+    length u.out.now ≡ length w.out.now →
+    Writes u ys a v →
+    Writes w (xs ++ ys) a v
+behind w u v xs ys (Ok t) f e text size (g, k) =
+    (record { lent = g.lent ∙ f.lent; text = g.text ∙ text }, omega (arith, length-append xs ys))
+behind w u v xs ys (Err x) f e text size (s, g, k, q) =
+    (s, record { lent = g.lent ∙ f.lent; text = g.text ∙ text }, omega arith, omega (arith, length-append xs ys))
+
 -- bytes behind bytes that are written
 pub writes_then :
-    (b m a : List ℕ) (at n : ℕ) (xs ys : List ℕ) (r : Result ℕ FileRefusal) →
-    Writes b at xs (Ok n) m →
-    Writes m n ys r a →
-    Writes b at (xs ++ ys) r a
-writes_then b m a at n xs ys (Ok k) (e, l, h) (f, p, q) =
-    let wrote = f ∙ ap (λ t. overlaid t n ys) e ∙ ap (λ j. overlaid (overlaid b at xs) j ys) l ∙ sym (overlaid_append b at xs ys) in
-    let same : length m ≡ length b = ap length e ∙ length_overlaid b at xs in
-    (wrote, omega (arith, length-append xs ys), omega arith)
-writes_then b m a at n xs ys (Err x) (e, l, h) (s, f, q) =
-    let wrote = f ∙ ap (λ t. overlaid t n ys) e ∙ ap (λ j. overlaid (overlaid b at xs) j ys) l ∙ sym (overlaid_append b at xs ys) in
-    let same : length m ≡ length b = ap length e ∙ length_overlaid b at xs in
-    (s, wrote, omega (arith, length-append xs ys))
+    (w u v : TextWriter) (xs ys : List ℕ) (a : Result (Unit {0}) FileRefusal) →
+    Writes w xs (Ok tt) u →
+    Writes u ys a v →
+    Writes w (xs ++ ys) a v
+writes_then w u v xs ys a (f, e) g =
+    let text : overlaid u.out.now u.end ys ≡ overlaid w.out.now w.end (xs ++ ys) =
+    ap (λ t. overlaid t u.end ys) f.text
+    ∙ ap (λ k. overlaid (overlaid w.out.now w.end xs) k ys) e
+    ∙ sym (overlaid_append w.out.now w.end xs ys) in
+    let size : length u.out.now ≡ length w.out.now = ap length f.text ∙ length_overlaid w.out.now w.end xs in
+    behind w u v xs ys a f e text size g
 
 -- where the first bytes have no room, all of them have none
 pub writes_stop :
-    (b a : List ℕ) (at : ℕ) (xs ys : List ℕ) (e : FileRefusal) →
-    Writes b at xs (Err e) a →
-    Writes b at (xs ++ ys) (Err e) a
-writes_stop b a at xs ys e (s, f, q) = (s, f ∙ sym (overlaid_full b at xs ys (omega arith)), omega (arith, length-append xs ys))
+    (w v : TextWriter) (xs ys : List ℕ) (e : FileRefusal) →
+    Writes w xs (Err e) v →
+    Writes w (xs ++ ys) (Err e) v
+writes_stop w v xs ys e (s, f, k, q) =
+    (s, record { lent = f.lent; text = f.text ∙ sym (overlaid_full w.out.now w.end xs ys (omega arith)) }, k, omega (arith, length-append xs ys))
 
 -- the same bytes
 pub writes_same :
-    (b a : List ℕ) (at : ℕ) (xs text : List ℕ) (r : Result ℕ FileRefusal) →
+    (w v : TextWriter) (xs text : List ℕ) (a : Result (Unit {0}) FileRefusal) →
     text ≡ xs →
-    Writes b at xs r a →
-    Writes b at text r a
-writes_same b a at xs text r e w = subst (λ (t : List ℕ). Writes b at t r a) (sym e) w
+    Writes w xs a v →
+    Writes w text a v
+writes_same w v xs text a e h = subst (λ (t : List ℕ). Writes w t a v) (sym e) h
 
--- what the exit of a `?` returns, where the first bytes have no room
-pub writes_break :
-    {r : Result ℕ FileRefusal} {e f : FileRefusal} (b a : List ℕ) (at : ℕ) (xs ys text : List ℕ) →
+-- bytes behind bytes that are written, where the two together are the text
+pub writes_on :
+    (w u v : TextWriter) (xs ys text : List ℕ) (a : Result (Unit {0}) FileRefusal) →
     text ≡ xs ++ ys →
-    r ≡ Err f →
-    f ≡ e →
-    Writes b at xs (Err e) a →
-    Writes b at text r a
-writes_break {e = e} b a at xs ys text t p q w =
-    subst (λ (x : Result ℕ FileRefusal). Writes b at text x a) (sym (p ∙ ap Err q))
-    (writes_same b a at (xs ++ ys) text (Err e) t (writes_stop b a at xs ys e w))
+    Writes w xs (Ok tt) u →
+    Writes u ys a v →
+    Writes w text a v
+writes_on w u v xs ys text a e h g = writes_same w v (xs ++ ys) text a e (writes_then w u v xs ys a h g)
+
+-- the exit of a `?` whose bytes have no room
+pub writes_exit :
+    (a : Result (Unit {0}) FileRefusal) (e : FileRefusal) →
+    IsErrAnd a (λ f. f ≡ e) →
+    (w v : TextWriter) (xs ys text : List ℕ) →
+    text ≡ xs ++ ys →
+    Writes w xs (Err e) v →
+    Writes w text a v
+writes_exit a e h w v xs ys text t g =
+    let p = err_from_is_err_and a h in
+    subst (λ (x : Result (Unit {0}) FileRefusal). Writes w text x v) (sym (p.1 ∙ ap Err p.2))
+    (writes_same w v (xs ++ ys) text (Err e) t (writes_stop w v xs ys e g))
+
+-- a text in three parts: the exit at the first and at the second, and all of it
+module _ (w : TextWriter) (xs ys zs text : List ℕ) (e : text ≡ xs ++ (ys ++ zs)) where
+  pub first_stops : (a : Result (Unit {0}) FileRefusal) (k : FileRefusal) → IsErrAnd a (λ f. f ≡ k) → (v : TextWriter) → Writes w xs (Err k) v → Writes w text a v
+  first_stops a k h v g = writes_exit a k h w v xs (ys ++ zs) text e g
+
+  pub second_stops :
+      (a : Result (Unit {0}) FileRefusal) (k : FileRefusal) →
+      IsErrAnd a (λ f. f ≡ k) →
+      (u v : TextWriter) →
+      Writes w xs (Ok tt) u →
+      Writes u ys (Err k) v →
+      Writes w text a v
+  second_stops a k h u v f g = writes_on w u v xs (ys ++ zs) text a e f (writes_exit a k h u v ys zs (ys ++ zs) refl g)
+
+  pub all_three :
+      (a : Result (Unit {0}) FileRefusal) (u o v : TextWriter) →
+      Writes w xs (Ok tt) u →
+      Writes u ys (Ok tt) o →
+      Writes o zs a v →
+      Writes w text a v
+  all_three a u o v f g h = writes_on w u v xs (ys ++ zs) text a e f (writes_on u o v ys zs (ys ++ zs) a refl g h)
 
 -- behind a front that stays, as many bytes as are written are replaced
 overlaid_behind : (front b xs : List ℕ) → length xs ≤ length b → overlaid (front ++ b) (length front) xs ≡ front ++ (xs ++ drop (length xs) b)
@@ -104,6 +138,23 @@ overlaid_behind front (y ∷ b) (x ∷ xs) h =
     ∙ ap (λ n. overlaid ((front ++ x ∷ []) ++ b) n xs) (sym (length_push front x))
     ∙ overlaid_behind (front ++ x ∷ []) b xs (omega arith)
     ∙ append_assoc front (x ∷ []) (xs ++ drop (length xs) b)
+
+-- the bytes of a part that has room for them
+pub overlaid_part : (b : List ℕ) (at : ℕ) (xs : List ℕ) → at + length xs ≤ length b → overlaid b at xs ≡ take at b ++ (xs ++ drop (length xs) (drop at b))
+overlaid_part b at xs h =
+    let n = length-take-le at b (omega arith) in
+    ap (λ t. overlaid t at xs) (sym (take-append-drop at b))
+    ∙ ap (λ k. overlaid (take at b ++ drop at b) k xs) (sym n)
+    ∙ overlaid_behind (take at b) (drop at b) xs (omega (arith, length-drop at b))
+
+-- the same of a part of k bytes that are copied into
+pub part_copied :
+    (b : List ℕ) (at k : ℕ) (ys xs : List ℕ) →
+    ys ≡ xs →
+    k ≡ length xs →
+    at + k ≤ length b →
+    take at b ++ (ys ++ drop k (drop at b)) ≡ overlaid b at xs
+part_copied b at k ys xs e f h = rw (e, f) (sym (overlaid_part b at xs (omega arith)))
 
 -- all of a text, written from its start on: it stands before what is left of the text that was there
 pub overlaid_whole : (b xs : List ℕ) → length xs ≤ length b → overlaid b 0 xs ≡ xs ++ drop (length xs) b

@@ -1,5 +1,6 @@
 -- The model of the stored types. Assumes nothing.
-use Rattle.std.specs.Prelude.{ℕ, List, take}
+use Rattle.std.specs.Prelude.{ℕ, List}
+use Rattle.grammar.specs.Bytes.{items}
 use Rattle.syntax.specs.declared.spelling.Literal.{Literal as StoredLiteral}
 use Rattle.syntax.specs.declared.spelling.Spelling.{Spelling as StoredSpelling}
 use Rattle.syntax.specs.declared.spelling.Spelling.TheVariants.{Literal, Name, Num}
@@ -9,7 +10,7 @@ use Rattle.syntax.specs.Syntax.{Spelling, literal, name, num, Symbol, nontermina
 
 -- the bytes of a stored literal
 abbrev pub bytes_of : StoredLiteral → List ℕ
-bytes_of l = take l.len l.bytes
+bytes_of l = items l.bytes
 
 -- what a stored spelling is
 abbrev pub spelling : StoredSpelling → Spelling

@@ -5,6 +5,7 @@ use Rattle.std.specs.Str.Parse.{AllDigits, digits_value}
 use Rattle.grammar.specs.declared.rule.Relation.{Relation}
 use Rattle.syntax.specs.declared.spelling.Spelling.{Spelling}
 use Rattle.syntax.specs.declared.spelling.Symbol.{Symbol}
+use Rattle.syntax.specs.Free.{FreeOf}
 use Rattle.syntax.specs.Syntax.{ValidSpelling, ValidSymbol, spelling_text, symbol_text, letter, sign}
 use Rattle.syntax.specs.Model.{spelling, symbol}
 
@@ -15,10 +16,19 @@ pub record FirstIndex (bytes : List ℕ) (from byte r : ℕ) : Type 0 where
   pub none : (k : ℕ) → from ≤ k → k < r → ¬ (slice_index bytes k ≡ byte)
   pub found : r < length bytes → slice_index bytes r ≡ byte
 
+-- the first index at or after `from` where the byte stands, or that there is none
+abbrev pub FirstFound : List ℕ → ℕ → ℕ → Option ℕ → Type 0
+FirstFound bytes from byte (Some r) = (r < length bytes) × FirstIndex bytes from byte r
+FirstFound bytes from byte None = (k : ℕ) → from ≤ k → k < length bytes → ¬ (slice_index bytes k ≡ byte)
+
 -- the index of the first line feed at or after `from`, or that there is none
 abbrev pub LineEnd : List ℕ → ℕ → Option ℕ → Type 0
-LineEnd text from (Some r) = (r < length text) × FirstIndex text from 10 r
-LineEnd text from None = (k : ℕ) → from ≤ k → k < length text → ¬ (slice_index text k ≡ 10)
+LineEnd text from r = FirstFound text from 10 r
+
+-- what stands before the first such byte and behind it, or that the byte does not stand in the text
+abbrev pub CutsAt : ℕ → List ℕ → Option (Bor (List ℕ) × Bor (List ℕ)) → Type 0
+CutsAt byte text (Some p) = FreeOf byte p.0.now × (text ≡ p.0.now ++ byte ∷ p.1.now)
+CutsAt byte text None = FreeOf byte text
 
 -- the valid value that is written as x, or that no valid value is
 abbrev pub Reads : {V W X : Type 0} → (V → W) → (W → Type 0) → (W → X) → X → Option V → Type 0

@@ -4,4 +4,4 @@
 
 pub mod reading;
 pub mod spelling;
-pub mod writing;
+pub mod text;

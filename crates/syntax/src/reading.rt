@@ -1,6 +1,7 @@
 ghost use Rattle.std.specs.Prelude.{◌≤◌, length};
 ghost use Rattle.syntax.specs.Reading.{
-  FirstIndex,
+  FirstFound,
+  CutsAt,
   LineEnd,
   ReadsDigits,
   ReadsNumber,
@@ -14,25 +15,20 @@ ghost use Rattle.syntax.specs.Reading.{
 use crate::spelling::{Literal, Spelling, Symbol};
 use grammar::rule::Relation;
 
-// The first index at or after `from` where the byte stands, or the length where it stands nowhere there.
-fn first_index(bytes: &[u8], from: usize, byte: u8) -> usize
+// The first index at or after `from` where the byte stands; none where it stands nowhere there.
+fn first_index(bytes: &[u8], from: usize, byte: u8) -> Option<usize>
     requires { from ≤ length bytes.now }
-    ensures { FirstIndex bytes.now from byte result }
+    ensures { FirstFound bytes.now from byte result }
 {
-    for i in from..bytes.len() {
-        if bytes[i] == byte {
-            return i;
-        }
-    }
-    bytes.len()
+    (from..bytes.len()).find(|index| bytes[*index] == byte)
 }
 
-// Where the part that begins at `from` ends: at the next space, or at the end of the line.
-pub fn part_end(line: &[u8], from: usize) -> usize
-    requires { from ≤ length line.now }
-    ensures { FirstIndex line.now from 32 result }
+// What stands before the first such byte, and what stands behind it; none where the byte does not stand in the text.
+pub fn cut_at(text: &[u8], byte: u8) -> Option<(&[u8], &[u8])>
+    ensures { CutsAt byte text.now result }
 {
-    first_index(line, from, b' ')
+    let end = first_index(text, 0, byte)?;
+    Some((&text[..end], &text[end + 1..]))
 }
 
 // Where the line that begins at `from` ends: at the next line feed; none where there is none.
@@ -40,8 +36,7 @@ pub fn line_end(text: &[u8], from: usize) -> Option<usize>
     requires { from ≤ length text.now }
     ensures { LineEnd text.now from result }
 {
-    let end = first_index(text, from, b'\n');
-    if end < text.len() { Some(end) } else { None }
+    first_index(text, from, b'\n')
 }
 
 // The number that at most five digits write; none where some byte is no digit.
@@ -70,20 +65,17 @@ pub fn read_number(part: &[u8]) -> Option<u16>
         return None;
     }
     let n = digits_value(part)?;
-    if n <= 65535 { Some(n as u16) } else { None }
+    u16::try_from(n).ok()
 }
 
 // What stands between the quotes that the part begins and ends with.
 fn quoted(part: &[u8]) -> Option<&[u8]>
     ensures { Quoted part.now result }
 {
-    let [b'"', rest @ ..] = part else {
-        return None;
-    };
-    let [inner @ .., b'"'] = rest else {
-        return None;
-    };
-    Some(inner)
+    match part {
+        [b'"', inner @ .., b'"'] => Some(inner),
+        _ => None,
+    }
 }
 
 // The spelling that the part writes.

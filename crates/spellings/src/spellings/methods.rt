@@ -1,4 +1,4 @@
-ghost use Rattle.std.specs.Prelude.{◌≡◌, ℕ, ◌+◌, ◌<◌, ◌≤◌, [], length, MatchOption, slice_index_or};
+ghost use Rattle.std.specs.Prelude.{◌≡◌, ℕ, ◌+◌, ◌<◌, ◌≤◌, [], map, length, MatchOption, slice_index_or};
 ghost use Rattle.syntax.specs.Model.{spelling, symbol};
 ghost use Rattle.syntax.specs.Syntax.{name};
 ghost use Rattle.file_model.specs.Spelled.{First, Declared, Declares, StandsFor, Unknown};
@@ -7,6 +7,15 @@ ghost use Rattle.spellings.specs.Model.{words};
 use super::Spellings;
 use grammar::refusals::FileRefusal;
 use syntax::spelling::{Spelling, Symbol};
+
+// The first index at which the spelling stands; none where it stands nowhere.
+fn first_index(words: &[Spelling], word: &Spelling) -> Option<usize>
+    ensures { MatchOption result ((k : ℕ) (d : Spelling) → k < length words.now → ¬ (spelling (slice_index_or words.now k d) ≡ spelling word.now))
+        (λ i. (i < length words.now) × ((d : Spelling) → spelling (slice_index_or words.now i d) ≡ spelling word.now)
+        × ((k : ℕ) (d : Spelling) → k < i → ¬ (spelling (slice_index_or words.now k d) ≡ spelling word.now))) }
+{
+    words.iter().position(|w| w == word)
+}
 
 impl Spellings {
     // No spellings.
@@ -17,6 +26,14 @@ impl Spellings {
             words: [Spelling::Name; 32],
             count: 0,
         }
+    }
+
+    // The spellings as a slice.
+    pub(crate) fn words(&self) -> &[Spelling]
+        ensures value { map spelling result.now ≡ words self.now }
+        ensures few { length result.now ≤ 32 }
+    {
+        &self.words[..self.count]
     }
 
     // How many spellings there are.
@@ -31,14 +48,8 @@ impl Spellings {
         ensures { MatchOption result ((k : ℕ) → kind ≡ 16 + k → length (words self.now) ≤ k)
             (λ w. (k : ℕ) × (kind ≡ 16 + k) × (k < length (words self.now)) × (spelling w ≡ slice_index_or (words self.now) k name)) }
     {
-        if kind < 16 {
-            return None;
-        }
-        let index = usize::from(kind - 16);
-        if index >= self.count {
-            return None;
-        }
-        Some(self.words[index])
+        let index = kind.checked_sub(16)?;
+        self.words().get(usize::from(index)).copied()
     }
 
     // The kind that the spelling is of; none where it is not declared.
@@ -46,12 +57,8 @@ impl Spellings {
         ensures { MatchOption result (¬ Declared (words self.now) (spelling word.now))
             (λ kind. (k : ℕ) × First (words self.now) (spelling word.now) k × (kind ≡ 16 + k)) }
     {
-        for i in 0..self.count {
-            if self.words[i].same(word) {
-                return Some(16 + i as u8);
-            }
-        }
-        None
+        let index = first_index(self.words(), word)?;
+        Some(16 + index as u8)
     }
 
     // The symbol that a written symbol stands for; none where its spelling is not declared.
@@ -69,13 +76,13 @@ impl Spellings {
     pub fn declare(&mut self, word: Spelling) -> Result<u8, FileRefusal>
         ensures { Declares (words self.old) (spelling word) result (words self.new) }
     {
-        let at = self.count;
-        if at >= 32 {
+        if self.count >= 32 {
             return Err(FileRefusal::Declared);
         }
         if let Some(_) = self.kind_of(&word) {
             return Err(FileRefusal::Declared);
         }
+        let at = self.count;
         self.words[at] = word;
         self.count = at + 1;
         Ok(16 + at as u8)

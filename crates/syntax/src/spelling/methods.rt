@@ -1,8 +1,9 @@
 ghost use Rattle.std.specs.Prelude.{◌≡◌, true, false, MatchOption};
 ghost use Rattle.syntax.specs.Syntax.{literal, LiteralByte, ValidSpelling};
-ghost use Rattle.syntax.specs.Model.{bytes_of, spelling};
+ghost use Rattle.syntax.specs.Model.{bytes_of};
 
-use super::{Literal, Spelling};
+use super::Literal;
+use grammar::bytes::Bytes;
 
 // Whether the byte may stand in a literal.
 fn may_stand(byte: u8) -> bool
@@ -17,39 +18,20 @@ impl Literal {
     pub fn new(bytes: &[u8]) -> Option<Literal>
         ensures { MatchOption result (¬ ValidSpelling (literal bytes.now)) (λ l. bytes_of l ≡ bytes.now) }
     {
-        let len = bytes.len();
-        if len < 1 || len > 8 {
+        if bytes.is_empty() {
             return None;
         }
-        let mut copy = [0u8; 8];
-        for (i, byte) in bytes.iter().enumerate() {
-            if !may_stand(*byte) {
-                return None;
-            }
-            copy[i] = *byte;
+        if !bytes.iter().all(|byte| may_stand(*byte)) {
+            return None;
         }
-        Some(Literal { bytes: copy, len })
+        let bytes = Bytes::from_slice(bytes)?;
+        Some(Literal { bytes })
     }
 
     // The bytes of the literal.
     pub fn bytes(&self) -> &[u8]
         ensures { result.now ≡ bytes_of self.now }
     {
-        &self.bytes[0..self.len]
-    }
-}
-
-impl Spelling {
-    // Whether the two spellings are the same.
-    pub fn same(&self, other: &Spelling) -> bool
-        ensures yes { result ≡ true → spelling self.now ≡ spelling other.now }
-        ensures no { result ≡ false → ¬ (spelling self.now ≡ spelling other.now) }
-    {
-        match (self, other) {
-            (Spelling::Literal(left), Spelling::Literal(right)) => left.bytes() == right.bytes(),
-            (Spelling::Name, Spelling::Name) => true,
-            (Spelling::Num, Spelling::Num) => true,
-            _ => false,
-        }
+        self.bytes.as_slice()
     }
 }

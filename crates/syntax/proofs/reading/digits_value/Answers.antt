@@ -1,4 +1,4 @@
-use Rattle.std.proofs.Common.{◌≡◌, take, arith, take_all}
+use Rattle.std.proofs.Common.{arith}
 use Rattle.std.proofs.lemmas.Str.Parse.{digit_at}
 use Rattle.syntax.proofs.Numbers.{front_small, digits_step}
 use Rattle.syntax.proofs.reading.digits_value.Goals as goal
@@ -16,12 +16,6 @@ loop-byte-preserved c =
     let inv = c.loop-byte.invariant in
     let digit = c.if-not-is_ascii_digit.ensures.cases in
     digits_step c.args.digits.now c.loop-byte.byte-index c.loop-byte.n _ (omega arith) digit c.from.ensures inv.0 inv.1
-
-pub returns : goal.returns
-returns c =
-    let ds = c.args.digits.now in
-    let all : take c.loop-byte.byte-index ds ≡ ds = take_all _ ds (omega arith) in
-    rw all at c.loop-byte.invariant
 
 pub returns-then-not-is_ascii_digit : goal.returns-then-not-is_ascii_digit
 returns-then-not-is_ascii_digit c = λ h.

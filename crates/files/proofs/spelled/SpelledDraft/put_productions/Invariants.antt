@@ -4,5 +4,6 @@ use Rattle.file_model.specs.Files.{rendered, production_form}
 use Rattle.files.specs.Model.{model}
 use Rattle.files.proofs.spelled.SpelledDraft.put_productions.Given as goal
 
-abbrev pub invariant-loop-i : goal.invariant-loop-i
-invariant-loop-i l = Writes l.initial.out l.at (rendered (map (production_form (model l.self).spellings) (take l.i (model l.self).draft.productions))) (Ok l.end) l.out
+abbrev pub invariant-loop-production : goal.invariant-loop-production
+invariant-loop-production l =
+    Writes l.initial.out (rendered (map (production_form (model l.self).spellings) (take l.production-index (model l.self).draft.productions))) (Ok tt) l.out

@@ -5,4 +5,4 @@ use Rattle.files.specs.Model.{model}
 use Rattle.files.proofs.spelled.SpelledDraft.put_rules.Given as goal
 
 abbrev pub invariant-loop-i : goal.invariant-loop-i
-invariant-loop-i l = Writes l.initial.out l.at (rendered (map rule_form (take l.i (model l.self).draft.rules))) (Ok l.end) l.out
+invariant-loop-i l = Writes l.initial.out (rendered (map rule_form (take l.i (model l.self).draft.rules))) (Ok tt) l.out

@@ -10,13 +10,13 @@ use Rattle.files.specs.Model.{model}
 use Rattle.files.proofs.spelled.SpelledDraft.read.Goals as goal
 
 pub returns-then-text-gt16384 : goal.returns-then-text-gt16384
-returns-then-text-gt16384 c = rw c.new.ensures (too_long c.if-text-gt16384.true)
+returns-then-text-gt16384 c = rw (c.in_file.ensures, c.new.ensures) (too_long c.if-text-gt16384.true)
 
 pub returns-in_default : goal.returns-in_default
-returns-in_default c = rw c.new.ensures (no_mark c.if-text-gt16384.false c.in_default.ensures)
+returns-in_default c = rw (c.in_file-in_default.ensures, c.new.ensures) (no_mark c.if-text-gt16384.false c.in_default.ensures)
 
 pub returns-in_default-read_start : goal.returns-in_default-read_start
-returns-in_default-read_start c = rw c.new.ensures (no_start c.if-text-gt16384.false c.in-Some.ensures c.in_default-read_start.ensures)
+returns-in_default-read_start c = rw (c.in_file-in_default-read_start.ensures, c.new.ensures) (no_start c.if-text-gt16384.false c.in-Some.ensures c.in_default-read_start.ensures)
 
 pub read_lines-requires : goal.read_lines-requires
 read_lines-requires c =

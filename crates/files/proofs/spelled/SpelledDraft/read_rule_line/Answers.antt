@@ -1,14 +1,21 @@
-use Rattle.std.proofs.Common.{Ok, Err, refl}
-use Rattle.syntax.specs.Syntax.{rule_line}
-use Rattle.files.specs.Reading.{as_form, as_none}
-use Rattle.files.proofs.LineForms.{rule_part}
+use Rattle.std.proofs.Common.{Ok, Err, refl, ap, ◌∙◌, subst}
+use Rattle.std.proofs.lemmas.Result.{err_from_is_err_and}
+use Rattle.syntax.specs.Syntax.{rule_line, HasForm}
+use Rattle.file_lines.specs.Reading.{ReadsRule}
+use Rattle.files.specs.Reading.{as_form}
 use Rattle.files.proofs.spelled.SpelledDraft.read_rule_line.Goals as goal
 
-pub returns-in_default : goal.returns-in_default
-returns-in_default c = as_none (λ f k h. let p = rule_part c.args.line.now f k h in c.in_default.ensures p.0 p.1 p.2 p.3) refl refl
+pub returns-in_err-add_rule : goal.returns-in_err-add_rule
+returns-in_err-add_rule c =
+    let line = c.args.line.now in
+    let k = c.in_ok-upper in
+    let f : HasForm line (rule_line k.upper k.relation k.lower) = subst (ReadsRule line) k.ensures.ok_part c.read_rule.ensures in
+    let p = err_from_is_err_and c.from_residual-in_err-add_rule.result c.from_residual-in_err-add_rule.ensures.1 in
+    as_form (rule_line k.upper k.relation k.lower) tt f (Err c.in_err-add_rule.field-0.0, c.in_err-add_rule.ensures, refl, p.1 ∙ ap Err p.2)
 
-pub returns-in-Ok : goal.returns-in-Ok
-returns-in-Ok c = as_form (rule_line c.in-Some.upper c.in-Some.relation c.in-Some.lower) tt c.in-Some.ensures (Ok c.in-Ok.field-0, c.in-Ok.ensures, refl, refl)
-
-pub returns-in-Err : goal.returns-in-Err
-returns-in-Err c = as_form (rule_line c.in-Some.upper c.in-Some.relation c.in-Some.lower) tt c.in-Some.ensures (Err c.in-Err.refusal, c.in-Err.ensures, refl, refl)
+pub returns : goal.returns
+returns c =
+    let line = c.args.line.now in
+    let k = c.in_ok-upper in
+    let f : HasForm line (rule_line k.upper k.relation k.lower) = subst (ReadsRule line) k.ensures.ok_part c.read_rule.ensures in
+    as_form (rule_line k.upper k.relation k.lower) tt f (Ok c.in_ok-add_rule.field-0, c.in_ok-add_rule.ensures, refl, refl)

@@ -6,8 +6,8 @@ use Rattle.spellings.specs.Model.{words}
 use Rattle.spellings.proofs.Words.{none_below, none_at_all, distinct_more}
 use Rattle.spellings.proofs.spellings.Spellings.declare.Goals as goal
 
-pub returns-then-at-ge32 : goal.returns-then-at-ge32
-returns-then-at-ge32 c =
+pub returns-then-self-ge32 : goal.returns-then-self-ge32
+returns-then-self-ge32 c =
     let s = c.args.self.now in
     (spellings_full (omega (arith, counted spelling s.words s.count (omega arith))), none_below (words s) (spelling c.args.word), refl)
 

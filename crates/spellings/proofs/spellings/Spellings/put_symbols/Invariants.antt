@@ -6,4 +6,4 @@ use Rattle.spellings.specs.Writing.{symbol_parts}
 use Rattle.spellings.proofs.spellings.Spellings.put_symbols.Given as goal
 
 abbrev pub invariant-loop-symbol : goal.invariant-loop-symbol
-invariant-loop-symbol l = Writes l.initial.out l.at (symbol_parts (map (written (words l.self)) (take l.symbol-index l.right))) (Ok l.end) l.out
+invariant-loop-symbol l = Writes l.initial.out (symbol_parts (map (written (words l.self)) (take l.symbol-index l.right))) (Ok tt) l.out

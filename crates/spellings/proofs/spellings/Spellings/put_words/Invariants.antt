@@ -5,5 +5,5 @@ use Rattle.file_model.specs.Files.{rendered}
 use Rattle.spellings.specs.Model.{words}
 use Rattle.spellings.proofs.spellings.Spellings.put_words.Given as goal
 
-abbrev pub invariant-loop-i : goal.invariant-loop-i
-invariant-loop-i l = Writes l.initial.out l.at (rendered (map word_line (take l.i (words l.self)))) (Ok l.end) l.out
+abbrev pub invariant-loop-word : goal.invariant-loop-word
+invariant-loop-word l = Writes l.initial.out (rendered (map word_line (take l.word-index (words l.self)))) (Ok tt) l.out
