@@ -73,7 +73,7 @@ fn others_in(right: &[u8], k: usize, set: u32) -> bool
     all_in(&right[..k], set) && all_in(&right[k + 1..], set)
 }
 
-// Relates the left side to each nonterminal of the right side all of whose neighbours are in the set.
+// Relates the left side to each nonterminal of the right side, if all other symbols are in the set.
 fn put_places(rows: &mut Rows, p: &Production, set: u32)
     requires { Nonterminal (production_of p.now).left }
     ensures { Gathers (Holds rows.old) (Holds rows.new) (length (production_of p.now).right)

@@ -1,8 +1,10 @@
 -- Places by production and position, and arrays that are written in order.
-use Rattle.std.proofs.Common.{◌≡◌, ℕ, ◌+◌, ◌<◌, ◌≤◌, ◌≢◌, List, length, get_or, take, set, ap, ◌∙◌, ⊎_elim, arith, below_more}
+use Rattle.std.proofs.Common.{◌≡◌, ℕ, zero, suc, ◌+◌, ◌<◌, ◌≤◌, ◌≢◌, List, length, get_or, take, set, sym, ap, ◌∙◌, subst, ⊎_elim, arith, below_more}
+use denote.Param.Members.{Mut, Called}
+use Rattle.std.specs.Array.{IsFromFnResultFrom}
 use Rattle.std.proofs.lemmas.List.{get_or_default, get_or-set_same, get_or-set_other, length-map, take-take}
 use Rattle.std.proofs.lemmas.List.Sums.{sum_by_more, sum_by-take-le}
-use Rattle.std.proofs.lemmas.Bool.{cases_order}
+use Rattle.std.proofs.lemmas.Bool.{cases_eq, cases_order}
 use Rattle.grammar.specs.declared.production.Production.{Production as Stored}
 use Rattle.grammar.specs.Grammar.{Production, no_production, left_at, right_at, places}
 use Rattle.grammar.specs.Model.{production, productions}
@@ -13,6 +15,22 @@ use Rattle.tables.specs.Places.{first_place, last_place}
 pub set_more : (xs : List ℕ) (i v : ℕ) (f : ℕ → ℕ) → i < length xs → ((k : ℕ) → k < i → get_or xs k 0 ≡ f k) → v ≡ f i → (k : ℕ) → k < i + 1 → get_or (set xs i v) k 0 ≡ f k
 set_more xs i v f l old new =
     below_more _ _ (λ k h. let ne : k ≢ i = omega arith in get_or-set_other xs i k v 0 ne ∙ old k h) (get_or-set_same xs i v 0 l ∙ new)
+
+-- an array of what a closure answers at each index
+module _
+    {F : Type 0}
+    (g : Mut F (ℕ × Unit {0}) ℕ)
+    (f : F)
+    (h : ℕ → ℕ)
+    (call : (k y : ℕ) (q : F) → Called g f (k, tt) y q → (q ≡ f) × (y ≡ h k)) where
+  pub made_from : (ys : List ℕ) (i n : ℕ) → IsFromFnResultFrom g f ys i n → (k : ℕ) → i ≤ k → k < i + n → get_or ys k 0 ≡ h k
+  made_from ys i zero each k low high = absurd (omega arith)
+  made_from ys i (suc n) (q, y, at, called, rest) k low high =
+      let c = call i y q called in
+      ⊎_elim (λ (e : k ≡ i). ap (λ m. get_or ys m 0) e ∙ at.1 0 ∙ c.1 ∙ sym (ap h e))
+      (λ (e : k ≡ i → ⊥).
+      made_from ys (i + 1) n (subst (λ x. IsFromFnResultFrom g x ys (i + 1) n) c.0 rest) k (omega (arith, low, e)) (omega (arith, high)))
+      (cases_eq k i)
 
 -- what the methods of the stored production that was read at i answer
 module _ (ps : List Stored) (i : ℕ) (x : Stored) (l : i < length ps) (is : x ≡ get_or ps i x) where

@@ -25,10 +25,6 @@ impl Source<'_, '_> {
     {
         let mut rows = leads(self.productions);
         rows.close();
-        let mut ranks = [0u8; 16];
-        for symbol in 0..16 {
-            ranks[symbol] = rank(&rows, symbol);
-        }
-        ranks
+        std::array::from_fn(|symbol| rank(&rows, symbol))
     }
 }

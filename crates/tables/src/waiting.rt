@@ -33,6 +33,7 @@ impl Source<'_, '_> {
             (λ g. (q : ℕ) → Has result q ↔ WaitsFor g p k q) }
     {
         let mut set = 0;
+        // `admits` asks by number, so items in place of numbers would be no plainer.
         for q in 0..self.productions.len() {
             if self.admits(p, k, q) {
                 set = with(set, q);
@@ -49,6 +50,7 @@ impl Source<'_, '_> {
             (λ g. Adds (Marked waits.old) (Marked waits.new) (Row g.productions (WaitsFor g) p)) }
     {
         let first = self.first[p] as usize;
+        // `admitted` asks by position.
         for k in 0..self.productions[p].right().len() {
             mark_each(waits, self.admitted(p, k), first + k);
         }
@@ -61,6 +63,7 @@ impl Source<'_, '_> {
             (λ g. Tabulates g.productions (WaitsFor g) result) }
     {
         let mut waits = [0u64; 64];
+        // `mark_production` asks by number.
         for p in 0..self.productions.len() {
             self.mark_production(&mut waits, p);
         }
