@@ -22,10 +22,11 @@ impl<'b, 'c> Reading<'b, 'c> {
         if let Some(cells) = chart.first_chunk_mut::<CELL_COUNT>() {
             open_chart(grammar.tables(), cells);
         }
+        let line = Bytes::empty();
         Reading {
             grammar,
             chart,
-            line: Bytes::empty(),
+            line,
         }
     }
 

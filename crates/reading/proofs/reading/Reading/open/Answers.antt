@@ -19,10 +19,10 @@ returns-clause-opened c =
     let after = c.match-first_chunk_mut.chart in
     let whole : (front : List ℕ) → after ≡ front ++ drop 4802 chart → 4802 ≤ length chart → length front ≡ 4802 = λ front e long. front_length chart front long (sym (ap length e) ∙ c.match-first_chunk_mut.auto.chart) in
     record {
-      none = c.empty.ensures;
+      none = c.empty-line.ensures;
       size = c.match-first_chunk_mut.auto.chart;
       marks = λ l.
-          subst (λ (ws : List ℕ). Charted g.tables (sealed_model g) ws after) (sym c.empty.ensures)
+          subst (λ (ws : List ℕ). Charted g.tables (sealed_model g) ws after) (sym c.empty-line.ensures)
           (elim c.match-first_chunk_mut.branch [
             | in-Some w ↦
                 let front = w.open_chart.new.cells in
