@@ -39,10 +39,8 @@ impl SpelledDraft {
     fn put_rules(&self, out: &mut TextWriter) -> Result<(), FileRefusal>
         ensures { Writes out.old (rendered (map rule_form (model self.now).draft.rules)) result out.new }
     {
-        for i in 0..self.draft.rule_count() {
-            if let Some(rule) = self.draft.rule(i + 1) {
-                put_rule_line(out, rule)?;
-            }
+        for rule in self.draft.rules() {
+            put_rule_line(out, *rule)?;
         }
         Ok(())
     }

@@ -1,9 +1,11 @@
 -- What the programs say of a book. Assumes nothing.
-use Rattle.std.specs.Prelude.{◌≡◌, ℕ, List, ◌++◌, length, Ok, Err, Result, codes, decimal}
+use Rattle.std.specs.Prelude.{◌≡◌, ℕ, List, ◌++◌, length, Ok, Err, Result, Some, None, Option, codes, decimal}
 use Rattle.grammar.specs.Refusals.{number as number_of}
 use Rattle.file_model.specs.declared.fault.Fault.{Fault}
 use Rattle.file_model.specs.Spelled.{Spelled}
 use Rattle.file_model.specs.Files.{Reads}
+use Rattle.files.specs.declared.spelled.SpelledDraft.{SpelledDraft}
+use Rattle.files.specs.Model.{model}
 use Rattle.reports.specs.declared.summary.Summary.{Summary}
 
 -- reading the text as a grammar file leaves the spelled grammar, with so many productions and rules, or refuses it with this fault
@@ -11,9 +13,10 @@ abbrev pub OutcomeOf : List ℕ → Spelled → Result Summary Fault → Type 0
 OutcomeOf text s (Ok x) = Reads text (Ok x.version) s × (x.productions ≡ length s.draft.productions) × (x.rules ≡ length s.draft.rules)
 OutcomeOf text s (Err f) = Reads text (Err f) s
 
--- some text is a grammar file that is read as the spelled grammar
-abbrev pub SomeBook : Spelled → Type 0
-SomeBook s = (text : List ℕ) × (x : Summary) × OutcomeOf text s (Ok x)
+-- what is opened of a text: the book that it is read as, or none where it is refused
+abbrev pub Opened : List ℕ → Option SpelledDraft → Type 0
+Opened text (Some book) = (x : Summary) × OutcomeOf text (model book) (Ok x)
+Opened text None = (f : Fault) × (s : Spelled) × OutcomeOf text s (Err f)
 
 -- the line that is printed of a book that is read
 abbrev pub report : Summary → List ℕ

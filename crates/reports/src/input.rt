@@ -1,11 +1,10 @@
-ghost use Rattle.std.specs.Prelude.{◌≡◌, IfOk, IfSome, Ok};
-ghost use Rattle.files.specs.Model.{model};
-ghost use Rattle.reports.specs.Reports.{SomeBook};
+ghost use Rattle.std.specs.Prelude.{◌≡◌, IfOk};
+ghost use Rattle.reports.specs.Reports.{Opened};
 
 use crate::summary::{RefusedBook, read_book};
 use files::spelled::SpelledDraft;
 use std::io::Read;
-use std::{fs, io};
+use std::io;
 
 // The name of the grammar file.
 pub const BOOK: &str = "book.rbk";
@@ -22,7 +21,7 @@ pub fn reported<T>(rt: &HostRuntime, name: &str, read: io::Result<T>) -> io::Res
 
 // Reads the text as a grammar file, and prints what it is; none where it is refused.
 pub fn print_book(rt: &HostRuntime, text: &[u8]) -> io::Result<Option<SpelledDraft>>
-    ensures { IfOk result (λ opened. IfSome opened (λ book. SomeBook (model book))) }
+    ensures { IfOk result (Opened text.now) }
 {
     let mut book = SpelledDraft::new();
     match read_book(&mut book, text) {
@@ -36,15 +35,6 @@ pub fn print_book(rt: &HostRuntime, text: &[u8]) -> io::Result<Option<SpelledDra
             Ok(None)
         }
     }
-}
-
-// Reads the grammar file in the current folder, and prints what it is; none where it is refused. Says on standard error
-// where it can't be read.
-pub fn open_book(rt: &HostRuntime) -> io::Result<Option<SpelledDraft>>
-    ensures { IfOk result (λ opened. IfSome opened (λ book. SomeBook (model book))) }
-{
-    let text = reported(rt, BOOK, fs::read(rt, BOOK))?;
-    print_book(rt, text.as_slice())
 }
 
 // All that standard input has.

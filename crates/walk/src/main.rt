@@ -5,11 +5,12 @@
 mod lines;
 
 use lines::count_lines;
-use reports::input::{open_book, read_input, reported};
-use std::io;
+use reports::input::{BOOK, print_book, read_input, reported};
+use std::{fs, io};
 
 fn main(rt: HostRuntime) -> io::Result<()> {
-    let Some(_) = open_book(&rt)? else {
+    let text = reported(&rt, BOOK, fs::read(&rt, BOOK))?;
+    let Some(_) = print_book(&rt, text.as_slice())? else {
         return Ok(());
     };
     let input = reported(&rt, "standard input", read_input(&rt))?;

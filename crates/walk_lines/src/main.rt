@@ -9,10 +9,10 @@ mod score_tables;
 mod session;
 mod verdict;
 
-use reports::input::{open_book, reported};
+use reports::input::{BOOK, print_book, reported};
 use session::Session;
-use std::io;
 use std::io::{BufWriter, Read, Write};
+use std::{fs, io};
 
 // Reads standard input part by part, and writes what each line is.
 fn read_lines<W: io::Write>(
@@ -33,7 +33,8 @@ fn read_lines<W: io::Write>(
 }
 
 fn main(rt: HostRuntime) -> io::Result<()> {
-    let Some(book) = open_book(&rt)? else {
+    let text = reported(&rt, BOOK, fs::read(&rt, BOOK))?;
+    let Some(book) = print_book(&rt, text.as_slice())? else {
         return Ok(());
     };
     let mut session = Session::new(book);
