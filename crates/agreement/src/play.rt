@@ -7,7 +7,7 @@ use listing_theory::record::Record;
 use reading::reading::Reading;
 use scales::Semiring;
 
-// Makes one call on the reading.
+// Makes one call on the reading. The records and the table are lent apart: a struct of both would be made anew for each call.
 fn make<S: Semiring>(
     reading: &mut Reading,
     call: Call,

@@ -1,5 +1,5 @@
 ghost use Rattle.std.specs.Prelude.{◌≡◌, ℕ, ◌^◌, ◌<◌, ◌≤◌};
-ghost use Rattle.std.proofs.Common.{rules};
+ghost use Rattle.std.proofs.Math.Nat.{le_refl, le-add_right};
 
 // A whole number whose bits are a set of the numbers below its width.
 pub trait Bits: Copy {
@@ -27,7 +27,7 @@ impl Bits for u32 {
 
     ghost width = { 32 };
 
-    ghost fits = { Prim.search rules };
+    ghost fits = { le-add_right 32 32 };
 
     fn widened(self) -> u64 {
         self as u64
@@ -43,7 +43,7 @@ impl Bits for u64 {
 
     ghost width = { 64 };
 
-    ghost fits = { Prim.search rules };
+    ghost fits = { le_refl 64 };
 
     fn widened(self) -> u64 {
         self

@@ -148,7 +148,7 @@ pub(crate) fn advance(
     !moved.is_empty() && moved.next().join(cells, set_of(i, j))
 }
 
-// The places of the items of column j, of any origin.
+// The places of the items of column j, of any origin. (A fold would need the same fact about the origins so far.)
 pub(crate) fn gather(cells: &Cells, j: usize) -> Places
     requires inside { j ≤ 48 }
     ensures { Gathered cells.now j (j + 1) result }

@@ -115,6 +115,7 @@ pub fn expected_kinds(t: &Tables, cells: &Cells, n: usize) -> u32
 {
     let places = gather(cells, n);
     let mut kinds = 0;
+    // (a fold would need the same fact about the kinds so far)
     for kind in 0..32 {
         if places.meets(&t.before, kind) {
             kinds = with(kinds, kind);

@@ -7,6 +7,7 @@ ghost use Rattle.files.specs.Model.{model};
 ghost use Rattle.reading.specs.Readings.{Long, Marks, cells, grammar_of, words};
 ghost use Rattle.engine.specs.Answers.{packed, room, written, Lists, ReadsBy, Answers};
 
+use chart::CELL_COUNT;
 use files::spelled::SpelledDraft;
 use grammar::refusals::ReadingRefusal;
 use lines::put_line;
@@ -26,10 +27,10 @@ fn write_records(records: &[Record], output: &mut [u8])
     requires { 3 * length records.now ≤ length output.old }
     ensures { output.new ≡ written records.now output.old }
 {
-    for i in 0..records.len() {
-        output[3 * i] = records[i].production;
-        output[3 * i + 1] = records[i].start;
-        output[3 * i + 2] = records[i].end;
+    for (i, record) in records.iter().enumerate() {
+        output[3 * i] = record.production;
+        output[3 * i + 1] = record.start;
+        output[3 * i + 2] = record.end;
     }
 }
 
@@ -47,6 +48,7 @@ fn list_through(reading: &Reading, size: usize, records: &mut [Record], output: 
             write_records(&records[0..count], output);
             pack(0, count)
         }
+        // (as one pattern with the `Ok`, the cases' answers lose what `list` says of them)
         Err(refusal) => match refusal {
             ReadingRefusal::ShortListing => {
                 write_records(records, output);
@@ -79,7 +81,7 @@ fn read_by(book: SpelledDraft, line: &[u8], output: &mut [u8]) -> u32
 {
     let SpelledDraft { draft, spellings } = book;
     let grammar = draft.seal();
-    let mut chart = [0u64; 4802];
+    let mut chart = [0u64; CELL_COUNT];
     let mut reading = Reading::open(&grammar, &mut chart);
     match put_line(&mut reading, &spellings, line) {
         Ok(_) => write_listing(&reading, line.len(), output),

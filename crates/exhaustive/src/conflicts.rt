@@ -54,8 +54,8 @@ impl Conflicts {
 
     // Adds what each rule says.
     fn add_all(&mut self, draft: &Draft) -> Result<(), AllocError> {
-        for rule in (1..=64).filter_map(|number| draft.rule(number)) {
-            self.add(rule)?;
+        for rule in draft.rules() {
+            self.add(*rule)?;
         }
         Ok(())
     }

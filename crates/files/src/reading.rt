@@ -74,7 +74,8 @@ impl SpelledDraft {
         self.read_rule_line(line)
     }
 
-    // Does what the lines behind the second say, one after the other, and answers the version.
+    // Does what the lines behind the second say, one after the other, and answers the version. (Where a value holds a part of the
+    // text, `let .. else` tells it by itself; after `ok_or(..)?` the proof lacks that it is that part.)
     fn read_lines(&mut self, text: &[u8]) -> Result<u16, Fault>
         requires { length text.now ≤ 16384 }
         ensures { ReadsFrom 3 (model self.old) text.now result (model self.new) }

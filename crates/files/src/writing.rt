@@ -10,7 +10,7 @@ use grammar::refusals::FileRefusal;
 use syntax::text::TextWriter;
 
 impl SpelledDraft {
-    // Whether every kind that a production uses has a spelling.
+    // Whether every kind that a production uses has a spelling. (With `all` both clauses stay open.)
     fn is_spelled(&self) -> bool
         ensures yes { result ≡ true → ¬ Unspelled (model self.now) }
         ensures no { result ≡ false → Unspelled (model self.now) }

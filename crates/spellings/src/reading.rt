@@ -21,6 +21,7 @@ fn gather(
         Gathers (words spellings.now) ss kept →
         Gathers (words spellings.now) (ss ++ symbol written.now ∷ []) result }
 {
+    // (with `ok_or(..)?` the refusal's clause stays open)
     let Some(symbol) = spellings.resolve(written) else {
         return Err(RightFault::Undeclared);
     };

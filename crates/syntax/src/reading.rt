@@ -45,6 +45,7 @@ fn digits_value(digits: &[u8]) -> Option<u32>
     ensures { ReadsDigits digits.now result }
 {
     let mut n: u32 = 0;
+    // (`try_fold` would hide that the number stays below 100,000)
     for byte in digits {
         if !byte.is_ascii_digit() {
             return None;
