@@ -1,16 +1,16 @@
 ghost use Rattle.walk.specs.Lines.{HasLines};
 
-use syntax::reading::line_end;
+use syntax::reading::cut_at;
 
 // How many lines the text has.
 pub fn count_lines(text: &[u8]) -> usize
     ensures { HasLines text.now result }
 {
-    let mut from = 0;
+    let mut rest = text;
     let mut count = 0;
-    while let Some(end) = line_end(text, from) {
-        from = end + 1;
+    while let Some((_, behind)) = cut_at(rest, b'\n') {
+        rest = behind;
         count += 1;
     }
-    if from < text.len() { count + 1 } else { count }
+    if rest.is_empty() { count } else { count + 1 }
 }
