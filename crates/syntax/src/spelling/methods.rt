@@ -1,8 +1,8 @@
 ghost use Rattle.std.specs.Prelude.{◌≡◌, true, false, MatchOption};
 ghost use Rattle.syntax.specs.Syntax.{literal, LiteralByte, ValidSpelling};
-ghost use Rattle.syntax.specs.Model.{bytes_of};
+ghost use Rattle.syntax.specs.Model.{bytes_of, spelling};
 
-use super::Literal;
+use super::{Literal, Spelling};
 use grammar::bytes::Bytes;
 
 // Whether the byte may stand in a literal.
@@ -33,5 +33,15 @@ impl Literal {
         ensures { result.now ≡ bytes_of self.now }
     {
         self.bytes.as_slice()
+    }
+}
+
+impl Spelling {
+    // Whether the two spellings stand for the same, which is their `==`.
+    pub fn same(&self, other: &Spelling) -> bool
+        ensures yes { result ≡ true → spelling self.now ≡ spelling other.now }
+        ensures no { result ≡ false → ¬ (spelling self.now ≡ spelling other.now) }
+    {
+        self == other
     }
 }
