@@ -3,8 +3,8 @@ ghost use Rattle.reports.specs.Reports.{Opened};
 
 use crate::summary::{RefusedBook, read_book};
 use files::spelled::SpelledDraft;
-use std::io::Read;
 use std::io;
+use std::io::Read;
 
 // The name of the grammar file.
 pub const BOOK: &str = "book.rbk";
