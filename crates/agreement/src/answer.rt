@@ -2,7 +2,7 @@ use grammar::refusals::ReadingRefusal;
 use reading::look::Look;
 
 // What a call on a reading answered; a score is on a scale of the type S.
-#[derive(Clone, Copy)]
+#[derive(Clone, Copy, PartialEq, Eq, Debug)]
 pub enum Answer<S> {
     Put(Result<u8, ReadingRefusal>),
     TakenBack(Result<u8, ReadingRefusal>),

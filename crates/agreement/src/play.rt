@@ -26,7 +26,8 @@ fn make<S: Semiring>(
 }
 
 // Makes the calls one after the other, as many as there are answers for, writes what they answered, and answers how many it made.
-// A history of the reading goes on with these calls and answers.
+// A history of the reading goes on with these calls and answers. Written by index: of what is written through an adapter of
+// `iter_mut` a proof knows nothing.
 pub fn play<S: Semiring>(
     reading: &mut Reading,
     calls: &[Call],

@@ -1,10 +1,8 @@
 -- The first n of an array's elements, each by what it stands for. Assumes nothing.
 use Rattle.std.proofs.Common.{◌≡◌, ℕ, ◌+◌, ◌<◌, ◌≤◌, List, [], ◌∷◌, ◌++◌, map, length, get_or, take, set, sym, ap, ◌∙◌, subst, arith}
-use Rattle.std.proofs.lemmas.List.{length-map, length-take-le, get_or-map, get_or-take, take_more_set, map_push, map_more, take-map, take-take}
-use Rattle.std.proofs.lemmas.List.Sums.{sum_by_push, sum_by-take-le}
+use Rattle.std.proofs.lemmas.List.{length-map, length-take-le, get_or-map, get_or-take, take_more_set, map_push}
 use Rattle.grammar.specs.declared.production.Production.{Production as Stored}
-use Rattle.grammar.specs.Grammar.{Production, places}
-use Rattle.grammar.specs.Model.{production, productions}
+use Rattle.grammar.specs.Model.{production}
 use Rattle.grammar.proofs.Sizes.{few_symbols}
 
 module _ {X Y : Type 0} (f : X → Y) (xs : List X) where
@@ -24,18 +22,6 @@ none_stands f P (x ∷ xs) e none k l p =
     let h : k < length (x ∷ xs) = omega (arith, length-map (x ∷ xs) f) in
     none k x h (subst P (get_or-map f (x ∷ xs) k x e h) p)
 
-pub places_more : (ps : List Stored) (i : ℕ) (d : Stored) → i < length ps → places (productions (take (i + 1) ps)) ≡ places (productions (take i ps)) + (length (production (get_or ps i d)).right + 1)
-places_more ps i d h =
-    ap places (map_more production ps i d h) ∙ sum_by_push (λ (p : Production). length p.right + 1) (productions (take i ps)) (production (get_or ps i d))
-
-pub places_within : (ps : List Stored) (i n : ℕ) → i ≤ n → places (productions (take i ps)) ≤ places (productions (take n ps))
-places_within ps i n h =
-    let e = take-map production i (take n ps) ∙ ap productions (take-take i n ps h) in
-    rw e at (sum_by-take-le (λ (p : Production). length p.right + 1) (productions (take n ps)) i)
-
 -- a stored production's right side has at most six symbols
 pub short : (p : Stored) → ¬ (6 < length (production p).right)
 short p h = omega (arith, few_symbols p)
-
-pub places_push : (ps : List Production) (p : Production) → places (ps ++ p ∷ []) ≡ places ps + (length p.right + 1)
-places_push ps p = sum_by_push (λ (q : Production). length q.right + 1) ps p

@@ -9,8 +9,8 @@ mod adding;
 mod reading;
 mod sealing;
 
-// A grammar that is being written: a start symbol, at most 32 productions and at most 64 rules. They stand in arrays with a count,
-// since there is no heap.
+// A grammar that is being written: a start symbol, at most 32 productions and at most 64 rules. They stand in arrays with a count
+// (no heap, and no list of any type: it would need a value to fill its room with).
 #[derive(Drop)]
 pub struct Draft {
     start: u8,

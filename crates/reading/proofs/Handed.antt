@@ -28,9 +28,6 @@ module _ (g : Sealed) (d : Draft) (e : d ≡ g.draft) (ps : List Stored) (f : pr
   pub start_at : (sealed_model g).start ≡ (model d).start
   start_at = sym (ap (λ (x : Draft). (model x).start) e)
 
-  pub places_at : places (sealed_model g).productions ≡ places (model d).productions
-  places_at = sym (ap (λ (x : Draft). places (model x).productions) e)
-
   module _ (t : Tables) (s : t ≡ g.tables) where
     pub counted : t.count ≡ length ps
     counted = (means_at g t s).known ∙ ap length productions_at ∙ length-map ps production

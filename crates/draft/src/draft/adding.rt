@@ -143,7 +143,8 @@ impl Draft {
         self.accept_production(production)
     }
 
-    // Adds a rule between two productions that there are, unless one would then have priority over itself.
+    // Adds a rule between two productions that there are, unless one would then have priority over itself. It is not one function with
+    // `accept_production`: each has its own test and bound.
     fn accept_rule(&mut self, rule: Rule) -> Result<u8, DraftRefusal>
         requires upper { Names (length (model self.old).productions) rule.upper }
         requires lower { Names (length (model self.old).productions) rule.lower }

@@ -21,7 +21,8 @@ fn index_of(kind: u8) -> Option<usize>
     }
 }
 
-// Puts a word of the kind behind the words of the line, on their chart, and answers how many then stand.
+// Puts a word of the kind behind the words of the line, on their chart, and answers how many then stand (of the parts: of what
+// `first_chunk_mut` of a field lends, a proof knows nothing afterwards).
 pub(crate) fn put_word(
     tables: &Tables,
     chart: &mut [u64],
@@ -45,7 +46,7 @@ pub(crate) fn put_word(
     Ok((count + 1) as u8)
 }
 
-// Takes the last word of the line back, on their chart, and answers how many then stand.
+// Takes the last word of the line back, on their chart, and answers how many then stand (of the parts, as above).
 pub(crate) fn take_word(
     chart: &mut [u64],
     line: &mut Bytes<MOST_WORDS>,
