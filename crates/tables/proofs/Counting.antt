@@ -21,13 +21,13 @@ module _
     {F : Type 0}
     (g : Mut F (ℕ × Unit {0}) ℕ)
     (f : F)
-    (h : ℕ → ℕ)
-    (call : (k y : ℕ) (q : F) → Called g f (k, tt) y q → (q ≡ f) × (y ≡ h k)) where
-  pub made_from : (ys : List ℕ) (i n : ℕ) → IsFromFnResultFrom g f ys i n → (k : ℕ) → i ≤ k → k < i + n → get_or ys k 0 ≡ h k
+    (R : ℕ → ℕ → Type 0)
+    (call : (k y : ℕ) (q : F) → Called g f (k, tt) y q → (q ≡ f) × R k y) where
+  pub made_from : (ys : List ℕ) (i n : ℕ) → IsFromFnResultFrom g f ys i n → (k : ℕ) → i ≤ k → k < i + n → R k (get_or ys k 0)
   made_from ys i zero each k low high = absurd (omega arith)
   made_from ys i (suc n) (q, y, at, called, rest) k low high =
       let c = call i y q called in
-      ⊎_elim (λ (e : k ≡ i). ap (λ m. get_or ys m 0) e ∙ at.1 0 ∙ c.1 ∙ sym (ap h e))
+      ⊎_elim (λ (e : k ≡ i). subst (λ m. R m (get_or ys m 0)) (sym e) (subst (R i) (sym (at.1 0)) c.1))
       (λ (e : k ≡ i → ⊥).
       made_from ys (i + 1) n (subst (λ x. IsFromFnResultFrom g x ys (i + 1) n) c.0 rest) k (omega (arith, low, e)) (omega (arith, high)))
       (cases_eq k i)

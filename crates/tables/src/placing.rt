@@ -1,9 +1,9 @@
-ghost use Rattle.std.specs.Prelude.{◌≡◌, ℕ, ◌≤◌, length, slice_index};
+ghost use Rattle.std.specs.Prelude.{◌≡◌, ℕ, ◌<◌, ◌≤◌, length, slice_index};
 ghost use Rattle.grammar.specs.Grammar.{places};
 ghost use Rattle.grammar.specs.Model.{productions as productions_of};
 ghost use Rattle.grammar.specs.Sound.{WellFormed};
 ghost use Rattle.derivations.specs.Ranges.{Numbers};
-ghost use Rattle.tables.specs.Places.{Firsts, Lasts};
+ghost use Rattle.tables.specs.Places.{Firsts, Lasts, last_place};
 ghost use Rattle.tables.specs.Stored.{grammar_of};
 
 use crate::source::Source;
@@ -21,6 +21,7 @@ fn firsts(productions: &[Production]) -> [u8; 32]
 {
     let mut first = [0u8; 32];
     let mut place = 0;
+    // (a running sum) Written by index: of what is written through an adapter of `iter_mut` a proof knows nothing.
     for (i, p) in productions.iter().enumerate() {
         first[i] = place as u8;
         place += p.places();
@@ -45,15 +46,22 @@ impl<'p, 'r> Source<'p, 'r> {
         }
     }
 
+    // The last place of the production p.
+    fn last(&self, p: usize) -> u8
+        ensures { p < length (productions_of self.now.productions.now) →
+            result ≡ last_place (productions_of self.now.productions.now) p }
+    {
+        match self.productions.get(p) {
+            Some(production) => self.first[p] + production.right().len() as u8,
+            None => 0,
+        }
+    }
+
     // The last place of each production.
     pub(crate) fn lasts(&self) -> [u8; 32]
         ensures whole { length result ≡ 32 }
         ensures each { Lasts (productions_of self.now.productions.now) result }
     {
-        let mut last = [0u8; 32];
-        for (i, p) in self.productions.iter().enumerate() {
-            last[i] = self.first[i] + p.right().len() as u8;
-        }
-        last
+        std::array::from_fn(|p| self.last(p))
     }
 }

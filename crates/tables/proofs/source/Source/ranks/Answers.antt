@@ -19,7 +19,7 @@ returns c =
     let long = c.from_fn.ensures.items.long in
     let count : (A : ℕ) → A < 16 → get_or ranks A 0 ≡ count_below (row_of rows A) 16 =
     λ A l.
-    made_from _ _ (λ k. count_below (row_of rows k) 16) (λ k y q called. search (rules, tests)) ranks 0 16 c.from_fn.ensures.items.each A
+    made_from _ _ (λ k y. y ≡ count_below (row_of rows k) 16) (λ k y q called. search (rules, tests)) ranks 0 16 c.from_fn.ensures.items.each A
     (omega arith) (omega (arith, l)) in
     let same = closure_iff (Holds c.leads-rows.result) (Leads ps) c.leads-rows.ensures in
     let on : (A B : ℕ) → Holds rows A B → Closure (Leads ps) A B = λ A B h. (same A B).0 ((c.close.ensures A B).0 h) in
