@@ -102,7 +102,8 @@ fn step(t: &Tables, cells: &mut Cells, j: usize) -> bool
     completed | predicted
 }
 
-// Completes and predicts in column j until nothing changes.
+// Completes and predicts in column j until nothing changes. (No call of bitset's `grown`: the step changes lent cells, and that
+// function steps a number.)
 pub(crate) fn close_column(t: &Tables, cells: &mut Cells, j: usize)
     requires inside { j ≤ 48 }
     ensures moved { (r : Bool) × Moves t.now j cells.old cells.new r }

@@ -1,4 +1,6 @@
 //! Items in the cells of a chart, by origin, end and place, and sets of places.
+//!
+//! Bounds stand in each contract: a struct of origin and end would be made anew in each loop.
 
 ghost use Rattle.std.specs.Prelude.{◌≡◌, ℕ, ◌+◌, ◌*◌, ◌<◌, ◌≤◌, true, false, ◌⊎◌, ◌↔◌, length, bit_or, slice_index, slice_set};
 ghost use Rattle.bitset.specs.Cells.{InSet};
@@ -148,16 +150,15 @@ pub(crate) fn advance(
     !moved.is_empty() && moved.next().join(cells, set_of(i, j))
 }
 
-// The places of the items of column j, of any origin. (A fold would need the same fact about the origins so far.)
+// The places of the items of column j, of any origin.
 pub(crate) fn gather(cells: &Cells, j: usize) -> Places
     requires inside { j ≤ 48 }
     ensures { Gathered cells.now j (j + 1) result }
 {
-    let mut all = Places { low: 0, high: 0 };
-    for i in 0..=j {
-        all = all.or(Places::at(cells, i, j));
-    }
-    all
+    (0..=j).fold(
+        Places { low: 0, high: 0 },
+        |all, i| all.or(Places::at(cells, i, j)),
+    )
 }
 
 // Empties the cells from `start` to `end`.
