@@ -2,3 +2,4 @@ pub mod Digits
 pub mod Warshall
 pub mod Joining
 pub mod Reaching
+pub mod Passing

@@ -9,6 +9,7 @@ use bits::Bits;
 
 pub mod bits;
 pub mod cells;
+pub mod choosing;
 pub mod growing;
 pub mod rows;
 
