@@ -1,10 +1,9 @@
 ghost use Rattle.std.specs.Prelude.{◌≡◌, ℕ, ◌^◌, ◌<◌, ◌≤◌, true, false};
 ghost use Rattle.bitset.specs.Bits.{Has};
 
-use std::ops::Range;
-
 use crate::bits::Bits;
 use crate::with;
+use std::ops::Range;
 
 // The set of the numbers of the range that pass the test.
 pub fn chosen<S: Bits, F: Fn(usize) -> bool>(numbers: Range<usize>, test: F) -> S
