@@ -4,7 +4,7 @@
 //! stop at the first change. The tables, the cells and the column are parameters, since a struct that holds the lent cells would
 //! have to say in every contract that it keeps all three.
 
-ghost use Rattle.std.specs.Prelude.{◌≡◌, ◌+◌, ◌<◌, ◌≤◌, Bool, false, length};
+ghost use Rattle.std.specs.Prelude.{◌≡◌, ◌+◌, ◌<◌, ◌≤◌, Bool, false};
 ghost use Rattle.tables.specs.Meaning.{last_of};
 ghost use Rattle.chart.specs.Chart.{Marked};
 ghost use Rattle.chart.specs.Cells.{Seen};

@@ -2,10 +2,10 @@
 //!
 //! Bounds stand in each contract: a struct of origin and end would be made anew in each loop.
 
-ghost use Rattle.std.specs.Prelude.{◌≡◌, ℕ, ◌+◌, ◌*◌, ◌<◌, ◌≤◌, true, false, ◌⊎◌, ◌↔◌, length, bit_or, slice_index, slice_set};
+ghost use Rattle.std.specs.Prelude.{◌≡◌, ℕ, ◌+◌, ◌*◌, ◌<◌, ◌≤◌, true, false, ◌⊎◌, ◌↔◌, length};
 ghost use Rattle.bitset.specs.Cells.{InSet};
 ghost use Rattle.chart.specs.Chart.{cell_of, Marked};
-ghost use Rattle.chart.specs.Cells.{Among, Grows, Added, Joined, Advanced, Cleared, Gathered, Meets};
+ghost use Rattle.chart.specs.Cells.{Among, Added, Joined, Advanced, Cleared, Gathered, Meets};
 
 use crate::Cells;
 use bitset::cells::{is_marked, join, mark};

@@ -6,14 +6,13 @@
 
 #![tactic(auto)]
 
-ghost use Rattle.std.specs.Prelude.{◌≡◌, ℕ, ◌+◌, ◌*◌, ◌<◌, ◌≤◌, true, false, ◌⊎◌, ◌↔◌, List, [], ◌∷◌, ◌++◌, length};
+ghost use Rattle.std.specs.Prelude.{◌≡◌, ℕ, ◌+◌, ◌*◌, ◌<◌, ◌≤◌, true, false, ◌↔◌, List, [], ◌∷◌, ◌++◌, length};
 ghost use Rattle.bitset.specs.Bits.{Has};
 ghost use Rattle.grammar.specs.Grammar.{Grammar};
 ghost use Rattle.tables.specs.declared.tables.Tables.{Tables};
 ghost use Rattle.tables.specs.Meaning.{Means, first_of};
 ghost use Rattle.theory.specs.Claims.{Awaited, Accepted};
 ghost use Rattle.chart.specs.Chart.{Marked, Charted, WhereCharted};
-ghost use Rattle.chart.specs.Cells.{Meets};
 ghost use Rattle.chart.specs.Columns.{Moves, Scanned, Ends};
 
 mod closing;

@@ -1,4 +1,4 @@
-ghost use Rattle.std.specs.Prelude.{◌≡◌, ℕ, ◌+◌, ◌<◌, ◌≤◌, true, false, MatchOption};
+ghost use Rattle.std.specs.Prelude.{◌≡◌, ◌+◌, ◌<◌, ◌≤◌, true, false, MatchOption};
 ghost use Rattle.tables.specs.Meaning.{first_of};
 ghost use Rattle.listing.specs.Asked.{tables_in, symbol_in, IsNode, Fits, CanBe, FirstEnd, NoEnd, NoChild, FirstChoice, NoChoice, Begun, Opens, InRow, RowIs};
 
