@@ -52,11 +52,11 @@ fn pass(productions: &[Production], set: u32) -> u32
     ensures sound { SoundSet (productions_of productions.now) set → SoundSet (productions_of productions.now) result }
     ensures closed { result ≡ set → (k : ℕ) → k < length productions.now → ClosedAt (productions_of productions.now) set k }
 {
-    let mut grown = set;
+    let mut reached = set;
     for p in productions {
-        grown = with_production(grown, p);
+        reached = with_production(reached, p);
     }
-    grown
+    reached
 }
 
 // The set of the nonterminals that derive the empty list.

@@ -9,8 +9,8 @@ use crate::source::Source;
 use bitset::cells::mark;
 
 // Puts the place d into the set of the symbol, if that is a kind.
-fn mark_kind(before: &mut [u64], symbol: u8, d: usize)
-    requires { (symbol < 48) × ((d < 128) × (64 ≤ length before.old)) }
+fn mark_kind(before: &mut [u64; 64], symbol: u8, d: usize)
+    requires { (symbol < 48) × (d < 128) }
     ensures { Adds (Marked before.old) (Marked before.new) (λ x e. (symbol ≡ 16 + x) × (e ≡ d)) }
 {
     if symbol >= 16 {
@@ -19,10 +19,9 @@ fn mark_kind(before: &mut [u64], symbol: u8, d: usize)
 }
 
 // Puts the places of a right side, from its first one on, into the sets of the kinds that stand there.
-fn mark_kinds(before: &mut [u64], right: &[u8], first: usize)
+fn mark_kinds(before: &mut [u64; 64], right: &[u8], first: usize)
     requires symbols { (k : ℕ) → k < length right.now → slice_index right.now k < 48 }
     requires small { first + length right.now < 128 }
-    requires room { 64 ≤ length before.old }
     ensures { Gathers (Marked before.old) (Marked before.new) (length right.now)
         (λ k x e. At right.now k (16 + x) × (e ≡ first + k)) }
 {

@@ -7,6 +7,7 @@ ghost use Rattle.tables.specs.Filling.{Filled, Fillable, FillableAt, WhereWaits,
 
 use crate::source::Source;
 use bitset::cells::is_marked;
+use bitset::choosing::chosen;
 use bitset::growing::grown;
 use bitset::{contains, with};
 
@@ -52,11 +53,17 @@ impl Source<'_, '_> {
             FillableAt (productions_of self.now.productions.now) waits.now set p →
             Has set p }
     {
-        let mut grown = set;
+        let mut reached = set;
         for (p, production) in self.productions.iter().enumerate() {
-            grown = with_filled(waits, grown, p, production.right(), self.first[p] as usize);
+            reached = with_filled(
+                waits,
+                reached,
+                p,
+                production.right(),
+                self.first[p] as usize,
+            );
         }
-        grown
+        reached
     }
 
     // The live productions.
@@ -74,12 +81,8 @@ impl Source<'_, '_> {
             × Has live p
             × (left_at (productions_of self.now.productions.now) p ≡ start)) }
     {
-        let mut set = 0;
-        for (p, production) in self.productions.iter().enumerate() {
-            if production.left() == start && contains(live, p) {
-                set = with(set, p);
-            }
-        }
-        set
+        chosen(0..self.productions.len(), |p| {
+            self.productions[p].left() == start && contains(live, p)
+        })
     }
 }

@@ -7,8 +7,8 @@ use bitset::cells::mark;
 use bitset::contains;
 
 // Puts the place d into the sets of all these numbers.
-pub(crate) fn mark_each(cells: &mut [u64], numbers: u32, d: usize)
-    requires { (64 ≤ length cells.old) × (d < 128) }
+pub(crate) fn mark_each(cells: &mut [u64; 64], numbers: u32, d: usize)
+    requires { d < 128 }
     ensures { Adds (Marked cells.old) (Marked cells.new) (λ x e. Has numbers x × (e ≡ d)) }
 {
     for x in 0..32 {

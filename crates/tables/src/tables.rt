@@ -5,7 +5,7 @@ ghost use Rattle.std.specs.Prelude.{◌≡◌, ℕ, ◌<◌, ◌≤◌, length, 
 pub struct Tables {
     // how many productions there are
     pub count: usize,
-    // the first and the last place of each production
+    // the first and the last place of each production (arrays of fixed size, no heap; each is asked for alone)
     pub first: [u8; 32],
     pub last: [u8; 32],
     // for each production the places whose next symbol it may be, without conflict, at the cells 2q and 2q + 1

@@ -12,6 +12,7 @@ use bitset::with;
 
 impl Source<'_, '_> {
     // Whether the production q may stand at position k of the production p: its left side does, and there is no conflict.
+    // (p and k alone: a struct of them would hold the source)
     fn admits(&self, p: usize, k: usize, q: usize) -> bool
         requires parent { p < length self.now.productions.now }
         requires position { k < length (right_at (productions_of self.now.productions.now) p) }
@@ -33,7 +34,7 @@ impl Source<'_, '_> {
             (λ g. (q : ℕ) → Has result q ↔ WaitsFor g p k q) }
     {
         let mut set = 0;
-        // `admits` asks by number, so items in place of numbers would be no plainer.
+        // (for `chosen` the closure would have to repeat the clauses of `admits`, which speak of every start symbol)
         for q in 0..self.productions.len() {
             if self.admits(p, k, q) {
                 set = with(set, q);
@@ -43,9 +44,8 @@ impl Source<'_, '_> {
     }
 
     // Puts the places of the production p into the sets of the productions that may stand there.
-    fn mark_production(&self, waits: &mut [u64], p: usize)
-        requires parent { p < length self.now.productions.now }
-        requires room { 64 ≤ length waits.old }
+    fn mark_production(&self, waits: &mut [u64; 64], p: usize)
+        requires { p < length self.now.productions.now }
         ensures { AnyStart (productions_of self.now.productions.now) (rules_of self.now.rules.now)
             (λ g. Adds (Marked waits.old) (Marked waits.new) (Row g.productions (WaitsFor g) p)) }
     {

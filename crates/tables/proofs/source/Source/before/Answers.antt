@@ -1,4 +1,4 @@
-use Rattle.std.proofs.Common.{◌≡◌, ℕ, ◌+◌, ◌<◌, List, length, get_or, sym, refl, ap, ◌∙◌, subst, arith}
+use Rattle.std.proofs.Common.{◌≡◌, ℕ, ◌+◌, ◌<◌, List, length, get_or, sym, refl, ap, subst, arith, rules}
 use Rattle.std.proofs.lemmas.List.{length-map}
 use Rattle.grammar.specs.Grammar.{At, right_at}
 use Rattle.grammar.specs.Model.{production, productions}
@@ -22,7 +22,6 @@ mark_kinds-requires c =
     record {
       symbols = subst (λ (xs : List ℕ). (k : ℕ) → k < length xs → get_or xs k 0 < 48) (sym right) (λ k. c.args.self.now.symbols p k (known_at ps p l));
       small = omega (arith, ap length right, c.args.self.now.begins p (known_at ps p l), last_low (productions ps) p (known_at ps p l), c.args.self.now.small);
-      room = omega (arith, c.loop-p.invariant.0);
     }
 
 pub loop-p-preserved : goal.loop-p-preserved
@@ -37,7 +36,7 @@ loop-p-preserved c =
     let step =
     subst (λ n. Gathers mid after (length (right_at (productions ps) p)) (λ k x e. At (right_at (productions ps) p) k (16 + x) × (e ≡ n + k))) place
     (subst (λ (xs : List ℕ). Gathers mid after (length xs) (λ k x e. At xs k (16 + x) × (e ≡ get_or c.args.self.now.first p 0 + k))) right c.mark_kinds.ensures) in (
-      c.mark_kinds.auto.before ∙ c.loop-p.invariant.0,
+      search rules,
       gathers_more Nowhere mid after p (Row (productions ps) (KindNext (productions ps))) c.loop-p.invariant.1 step,
     )
 

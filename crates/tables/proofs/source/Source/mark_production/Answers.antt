@@ -13,9 +13,9 @@ use Rattle.tables.proofs.source.Source.mark_production.Goals as goal
 pub admitted-requires : goal.admitted-requires
 admitted-requires c =
     let ps = c.args.self.now.productions.now in
-    let size = ap length (right_there ps c.args.p c.index-self-p.result c.requires.parent _ c.right-k-end.ensures) in
+    let size = ap length (right_there ps c.args.p c.index-self-p.result c.requires _ c.right-k-end.ensures) in
     record {
-      parent = c.requires.parent;
+      parent = c.requires;
       position = omega (arith, size, c.loop-k-test.true);
     }
 
@@ -23,16 +23,14 @@ admitted-requires c =
 pub overflow_add-first : goal.overflow_add-first
 overflow_add-first c =
     let ps = c.args.self.now.productions.now in
-    let size = ap length (right_there ps c.args.p c.index-self-p.result c.requires.parent _ c.right-k-end.ensures) in
-    omega (arith, last_low (productions ps) c.args.p (known_at ps c.args.p c.requires.parent), c.args.self.now.small, (c.args.self.now.begins c.args.p (known_at c.args.self.now.productions.now c.args.p c.requires.parent)), size, c.loop-k-test.true)
+    let size = ap length (right_there ps c.args.p c.index-self-p.result c.requires _ c.right-k-end.ensures) in
+    omega (arith, last_low (productions ps) c.args.p (known_at ps c.args.p c.requires), c.args.self.now.small, (c.args.self.now.begins c.args.p (known_at c.args.self.now.productions.now c.args.p c.requires)), size, c.loop-k-test.true)
 
 pub mark_each-requires : goal.mark_each-requires
 mark_each-requires c =
     let ps = c.args.self.now.productions.now in
-    let size = ap length (right_there ps c.args.p c.index-self-p.result c.requires.parent _ c.right-k-end.ensures) in (
-      omega (arith, c.loop-k.auto.waits, c.requires.room),
-      omega (arith, last_low (productions ps) c.args.p (known_at ps c.args.p c.requires.parent), c.args.self.now.small, (c.args.self.now.begins c.args.p (known_at c.args.self.now.productions.now c.args.p c.requires.parent)), size, c.loop-k-test.true),
-    )
+    let size = ap length (right_there ps c.args.p c.index-self-p.result c.requires _ c.right-k-end.ensures) in
+    omega (arith, last_low (productions ps) c.args.p (known_at ps c.args.p c.requires), c.args.self.now.small, (c.args.self.now.begins c.args.p (known_at c.args.self.now.productions.now c.args.p c.requires)), size, c.loop-k-test.true)
 
 pub loop-k-preserved : goal.loop-k-preserved
 loop-k-preserved c start =
@@ -43,7 +41,7 @@ loop-k-preserved c start =
     let set = c.admitted.result in
     let mid = Marked c.loop-k.waits in
     let after = Marked c.mark_each.new.cells in
-    let place = ap (λ n. n + k) (c.args.self.now.begins c.args.p (known_at c.args.self.now.productions.now c.args.p c.requires.parent)) in
+    let place = ap (λ n. n + k) (c.args.self.now.begins c.args.p (known_at c.args.self.now.productions.now c.args.p c.requires)) in
     let step =
     adds_same mid after (λ x e. Has set x × (e ≡ get_or c.args.self.now.first c.args.p 0 + k)) (Entry ps (WaitsFor g) p k) c.mark_each.ensures
     (λ x e. (λ h. ((c.admitted.ensures start x).0 h.0, h.1 ∙ place), λ h. ((c.admitted.ensures start x).1 h.0, h.1 ∙ sym place))) in
@@ -54,6 +52,6 @@ returns c start =
     let ps = c.args.self.now.productions.now in
     let g : Grammar = record { start = start; productions = productions ps; rules = rules c.args.self.now.rules.now } in
     let p = c.args.p in
-    let size = ap length (right_there ps p c.index-self-p.result c.requires.parent _ c.right-k-end.ensures) in
+    let size = ap length (right_there ps p c.index-self-p.result c.requires _ c.right-k-end.ensures) in
     let all : c.loop-k.k ≡ length (right_at (productions ps) p) = omega (arith, size) in
     subst (λ n. Gathers (Marked c.args.waits.now) (Marked c.loop-k.waits) n (Entry (productions ps) (WaitsFor g) p)) all (c.loop-k.invariant start)

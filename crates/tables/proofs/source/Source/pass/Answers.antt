@@ -7,8 +7,8 @@ use Rattle.tables.proofs.Counting.{right_is, known_at, stored_at, last_low}
 use Rattle.tables.proofs.Least.{passed_more}
 use Rattle.tables.proofs.source.Source.pass.Goals as goal
 
-pub with_filled-grown-requires : goal.with_filled-grown-requires
-with_filled-grown-requires c =
+pub with_filled-reached-requires : goal.with_filled-reached-requires
+with_filled-reached-requires c =
     let ps = c.args.self.now.productions.now in
     let p = c.loop-p.p in
     let l = c.loop-p-test.true in
@@ -23,9 +23,9 @@ loop-p-preserved c =
     let waits = c.args.waits.now in
     let p = c.loop-p.p in
     let l = c.loop-p-test.true in
-    let a = c.loop-p.grown in
-    let b = c.with_filled-grown.result in
-    let e = c.with_filled-grown.ensures in
+    let a = c.loop-p.reached in
+    let b = c.with_filled-reached.result in
+    let e = c.with_filled-reached.ensures in
     let right = right_is ps p c.production-item.result l c.production-item.is _ c.right.ensures in
     let place = c.args.self.now.begins p (known_at ps p l) in
     let holds =

@@ -1,4 +1,4 @@
-use Rattle.std.proofs.Common.{refl, ◌∙◌, arith}
+use Rattle.std.proofs.Common.{refl, arith, rules as steps}
 use Rattle.std.proofs.lemmas.List.{length-map}
 use Rattle.grammar.specs.Grammar.{Grammar}
 use Rattle.grammar.specs.Model.{production, productions, rules}
@@ -11,14 +11,10 @@ use Rattle.tables.proofs.source.Source.waits.Goals as goal
 pub loop-p-init : goal.loop-p-init
 loop-p-init c = (refl, λ start. gathers_none 64 _)
 
-pub mark_production-requires : goal.mark_production-requires
-mark_production-requires c =
-    record { parent = c.loop-p-test.true; room = omega (arith, c.loop-p.invariant.0) }
-
 pub loop-p-preserved : goal.loop-p-preserved
 loop-p-preserved c =
     let ps = productions c.args.self.now.productions.now in (
-      c.mark_production.auto.waits ∙ c.loop-p.invariant.0,
+      search steps,
       λ start.
           let g : Grammar = record { start = start; productions = ps; rules = rules c.args.self.now.rules.now } in
           gathers_more Nowhere (Marked c.loop-p.waits) (Marked c.mark_production.new.waits) c.loop-p.p (Row ps (WaitsFor g)) (c.loop-p.invariant.1 start)
