@@ -79,6 +79,14 @@ joined a k w h f g =
       quiet = λ no. set_same a k y h (sym (eqb-true y x (not-false _ no)));
     }
 
+-- the same of cells that are so, and of an answer that is so
+pub joined_by :
+    (a b : List ℕ) (k w : ℕ) (r : Bool) → k < length a → get_or a k 0 < 2 ^ 64 → w < 2 ^ 64 →
+    b ≡ set a k (bit_or (get_or a k 0) w) →
+    r ≡ not (eqb (bit_or (get_or a k 0) w) (get_or a k 0)) →
+    Grows a b r
+joined_by a b k w r h f g e v = subst (λ c. Grows a c r) (sym e) (subst (λ s. Grows a (set a k (bit_or (get_or a k 0) w)) s) (sym v) (joined a k w h f g))
+
 -- ---- one place comes in
 
 pub marked_grows :

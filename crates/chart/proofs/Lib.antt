@@ -3,6 +3,7 @@ pub mod Pairs
 pub mod Growing
 pub mod Bounds
 pub mod Places
+pub mod Gathering
 pub mod Steady
 pub mod Columns
 pub mod Words

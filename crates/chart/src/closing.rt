@@ -4,7 +4,7 @@
 //! stop at the first change. The tables, the cells and the column are parameters, since a struct that holds the lent cells would
 //! have to say in every contract that it keeps all three.
 
-ghost use Rattle.std.specs.Prelude.{◌≡◌, ◌+◌, ◌<◌, ◌≤◌, Bool, false, length};
+ghost use Rattle.std.specs.Prelude.{◌≡◌, ◌+◌, ◌<◌, ◌≤◌, Bool, false};
 ghost use Rattle.tables.specs.Meaning.{last_of};
 ghost use Rattle.chart.specs.Chart.{Marked};
 ghost use Rattle.chart.specs.Cells.{Seen};
@@ -102,7 +102,8 @@ fn step(t: &Tables, cells: &mut Cells, j: usize) -> bool
     completed | predicted
 }
 
-// Completes and predicts in column j until nothing changes.
+// Completes and predicts in column j until nothing changes. (No call of bitset's `grown`: the step changes lent cells, and that
+// function steps a number.)
 pub(crate) fn close_column(t: &Tables, cells: &mut Cells, j: usize)
     requires inside { j ≤ 48 }
     ensures moved { (r : Bool) × Moves t.now j cells.old cells.new r }

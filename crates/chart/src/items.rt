@@ -1,12 +1,14 @@
 //! Items in the cells of a chart, by origin, end and place, and sets of places.
+//!
+//! Bounds stand in each contract: a struct of origin and end would be made anew in each loop.
 
-ghost use Rattle.std.specs.Prelude.{◌≡◌, ℕ, ◌+◌, ◌*◌, ◌<◌, ◌≤◌, true, false, ◌⊎◌, ◌↔◌, length, bit_or, slice_index, slice_set};
+ghost use Rattle.std.specs.Prelude.{◌≡◌, ℕ, ◌+◌, ◌*◌, ◌<◌, ◌≤◌, true, false, ◌⊎◌, ◌↔◌, length};
 ghost use Rattle.bitset.specs.Cells.{InSet};
 ghost use Rattle.chart.specs.Chart.{cell_of, Marked};
-ghost use Rattle.chart.specs.Cells.{Among, Grows, Added, Joined, Advanced, Cleared, Gathered, Meets};
+ghost use Rattle.chart.specs.Cells.{Among, Added, Joined, Advanced, Cleared, Gathered, Meets};
 
 use crate::Cells;
-use bitset::cells::{is_marked, mark};
+use bitset::cells::{is_marked, join, mark};
 
 // A set of places: the place d is bit d of `low`, or bit d - 64 of `high`.
 #[derive(Clone, Copy)]
@@ -96,8 +98,8 @@ impl Places {
         requires { x < 2401 }
         ensures { Joined (2 * x) self cells.old cells.new result }
     {
-        let one = join_cell(cells, 2 * x, self.low);
-        let two = join_cell(cells, 2 * x + 1, self.high);
+        let one = join(cells, 2 * x, self.low);
+        let two = join(cells, 2 * x + 1, self.high);
         one | two
     }
 }
@@ -109,18 +111,6 @@ pub fn has(cells: &Cells, i: usize, j: usize, d: usize) -> bool
     ensures no { result ≡ false → ¬ Marked cells.now i j d }
 {
     is_marked(cells, set_of(i, j), d)
-}
-
-// Adds bits to the cell k and tells whether that changed it.
-fn join_cell(cells: &mut Cells, k: usize, bits: u64) -> bool
-    requires { k < 4802 }
-    ensures same { cells.new ≡ slice_set cells.old k (bit_or (slice_index cells.old k) bits) }
-    ensures growth { Grows cells.old cells.new result }
-{
-    let old = cells[k];
-    let new = old | bits;
-    cells[k] = new;
-    new != old
 }
 
 // Adds the item with origin i, end j and the place d, and tells whether that changed the cells.
@@ -148,16 +138,15 @@ pub(crate) fn advance(
     !moved.is_empty() && moved.next().join(cells, set_of(i, j))
 }
 
-// The places of the items of column j, of any origin. (A fold would need the same fact about the origins so far.)
+// The places of the items of column j, of any origin.
 pub(crate) fn gather(cells: &Cells, j: usize) -> Places
     requires inside { j ≤ 48 }
     ensures { Gathered cells.now j (j + 1) result }
 {
-    let mut all = Places { low: 0, high: 0 };
-    for i in 0..=j {
-        all = all.or(Places::at(cells, i, j));
-    }
-    all
+    (0..=j).fold(
+        Places { low: 0, high: 0 },
+        |all, i| all.or(Places::at(cells, i, j)),
+    )
 }
 
 // Empties the cells from `start` to `end`.

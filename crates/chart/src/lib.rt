@@ -6,20 +6,20 @@
 
 #![tactic(auto)]
 
-ghost use Rattle.std.specs.Prelude.{◌≡◌, ℕ, ◌+◌, ◌*◌, ◌<◌, ◌≤◌, true, false, ◌⊎◌, ◌↔◌, List, [], ◌∷◌, ◌++◌, length};
+ghost use Rattle.std.specs.Prelude.{◌≡◌, ℕ, ◌+◌, ◌*◌, ◌<◌, ◌≤◌, true, false, ◌↔◌, List, [], ◌∷◌, ◌++◌, length};
 ghost use Rattle.bitset.specs.Bits.{Has};
 ghost use Rattle.grammar.specs.Grammar.{Grammar};
 ghost use Rattle.tables.specs.declared.tables.Tables.{Tables};
 ghost use Rattle.tables.specs.Meaning.{Means, first_of};
 ghost use Rattle.theory.specs.Claims.{Awaited, Accepted};
 ghost use Rattle.chart.specs.Chart.{Marked, Charted, WhereCharted};
-ghost use Rattle.chart.specs.Cells.{Meets};
 ghost use Rattle.chart.specs.Columns.{Moves, Scanned, Ends};
 
 mod closing;
 pub mod items;
 
-use bitset::{contains, with};
+use bitset::choosing::chosen;
+use bitset::contains;
 use closing::close_column;
 use items::{add, advance, clear, gather, has};
 use tables::tables::Tables;
@@ -114,12 +114,5 @@ pub fn expected_kinds(t: &Tables, cells: &Cells, n: usize) -> u32
         (λ g ws. (b : ℕ) → b < 32 → Has result b ↔ Awaited g ws (16 + b)) }
 {
     let places = gather(cells, n);
-    let mut kinds = 0;
-    // (a fold would need the same fact about the kinds so far)
-    for kind in 0..32 {
-        if places.meets(&t.before, kind) {
-            kinds = with(kinds, kind);
-        }
-    }
-    kinds
+    chosen(0..32, |kind| places.meets(&t.before, kind))
 }

@@ -1,5 +1,4 @@
 pub mod Finding
-pub mod Filtering
 pub mod Filling
 pub mod Meaning
 pub mod Writing

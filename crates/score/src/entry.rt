@@ -8,7 +8,8 @@ pub(crate) struct Span {
     ghost ordered: { start ≤ end },
 }
 
-// An entry of the table: the ways of the symbols of the production before the dot over the span.
+// An entry of the table: the ways of the symbols of the production before the dot over the span. That the input has it stands in
+// each contract (an entry that held its input would have to be shown to be one of these sums').
 #[derive(Clone, Copy)]
 pub(crate) struct Entry {
     pub(crate) production: usize,

@@ -13,13 +13,10 @@ fn tail(right: &[u8], set: u32) -> u8
     requires short { length right.now ≤ 6 }
     ensures { Tail (Has set) right.now result }
 {
-    match right
+    right
         .iter()
         .rposition(|symbol| !contains(set, usize::from(*symbol)))
-    {
-        Some(last) => last as u8 + 1,
-        None => 0,
-    }
+        .map_or(0, |last| last as u8 + 1)
 }
 
 // For each production the least position from which on every symbol may be empty.
@@ -31,7 +28,7 @@ pub(crate) fn tails(productions: &[Production]) -> [u8; 32]
 {
     let empty = nullable(productions);
     let mut tails = [0u8; 32];
-    // Written by index, since a proof knows nothing of what is written through `iter_mut`.
+    // Written by index: of what is written through an adapter of `iter_mut` a proof knows nothing.
     for (i, p) in productions.iter().enumerate() {
         tails[i] = tail(p.right(), empty);
     }

@@ -1,5 +1,4 @@
-ghost use Rattle.std.specs.Prelude.{◌≡◌, ℕ, ◌+◌, ◌<◌, ◌≤◌, true, false, length};
-ghost use Rattle.bitset.specs.Bits.{Has};
+ghost use Rattle.std.specs.Prelude.{◌≡◌, ◌+◌, ◌<◌, ◌≤◌, true, false, length};
 ghost use Rattle.listing.specs.Asked.{right_in, Whole, rank_in, weight as weight_of, RowsFrom};
 
 use super::Node;
@@ -29,11 +28,12 @@ impl<'a> Node<'a> {
     fn rank(&self) -> usize
         ensures { result ≡ rank_in self.now.sources self.now.production }
     {
-        let left = self.sources.productions[self.production].left() as usize;
-        if left >= 16 {
-            return 0;
-        }
-        (self.sources.tables.ranks[left] as usize).min(16)
+        let left = usize::from(self.sources.productions[self.production].left());
+        self.sources
+            .tables
+            .ranks
+            .get(left)
+            .map_or(0, |rank| usize::from(*rank).min(16))
     }
 
     // What falls from a node to its children: the number of its words, then its rank.
@@ -51,6 +51,7 @@ impl<'a> Node<'a> {
         let mut rows = [0; 7];
         let size = self.right().len();
         rows[size] = with(0u64, self.end);
+        // By index: each row is made from the next one.
         for place in (0..size).rev() {
             let slot = Slot {
                 node: *self,

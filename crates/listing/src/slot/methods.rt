@@ -1,11 +1,12 @@
-ghost use Rattle.std.specs.Prelude.{◌≡◌, ℕ, ◌+◌, ◌<◌, ◌≤◌, true, false, MatchOption};
+ghost use Rattle.std.specs.Prelude.{◌≡◌, ◌+◌, ◌<◌, ◌≤◌, true, false, MatchOption};
 ghost use Rattle.tables.specs.Meaning.{first_of};
 ghost use Rattle.listing.specs.Asked.{tables_in, symbol_in, IsNode, Fits, CanBe, FirstEnd, NoEnd, NoChild, FirstChoice, NoChoice, Begun, Opens, InRow, RowIs};
 
 use super::Slot;
 use crate::node::Node;
 use bitset::cells::is_marked;
-use bitset::{contains, with};
+use bitset::choosing::chosen;
+use bitset::contains;
 use chart::items::has;
 
 impl<'a> Slot<'a> {
@@ -120,8 +121,9 @@ impl<'a> Slot<'a> {
     pub(crate) fn row(&self) -> u64
         ensures { RowIs self.now.node self.now.place self.now.next result }
     {
-        (self.node.start..self.node.end + 1)
-            .filter(|position| self.in_row(*position))
-            .fold(0, |row, position| with(row, position))
+        chosen(
+            self.node.start..self.node.end + 1,
+            |position| self.in_row(position),
+        )
     }
 }

@@ -1,4 +1,4 @@
-ghost use Rattle.std.specs.Prelude.{◌≡◌, ◌<◌, ◌≤◌, true, false, length};
+ghost use Rattle.std.specs.Prelude.{◌≡◌, ◌<◌, true, false, length};
 ghost use Rattle.score.specs.Inputs.{productions_in, HasEntry, place_in, index_in, WaitsIn, level_in};
 
 use super::Input;

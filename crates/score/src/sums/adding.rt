@@ -65,22 +65,16 @@ impl<'a, 's, S: Semiring> Sums<'a, 's, S> {
             Terms S.Semiring.scale self.now.input.now self.now.table.now entry.production entry.dot entry.span.start (entry.span.start + taken) entry.span.end f →
             result ≡ sum_below S.Semiring.scale (length (productions_in self.now.input.now)) f }
     {
-        let Entry {
-            production,
-            dot,
-            span,
-        } = entry;
         let before = Entry {
-            production,
-            dot,
             span: Span {
-                start: span.start,
-                end: span.start + taken,
+                start: entry.span.start,
+                end: entry.span.start + taken,
             },
+            ..entry
         };
         total(
             self.input.productions.len(),
-            |q| self.term(before, q, span.end),
+            |q| self.term(before, q, entry.span.end),
         )
     }
 

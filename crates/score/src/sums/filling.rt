@@ -1,4 +1,4 @@
-ghost use Rattle.std.specs.Prelude.{◌≡◌, ◌+◌, ◌-◌, ◌<◌, ◌≤◌, length};
+ghost use Rattle.std.specs.Prelude.{◌+◌, ◌-◌, ◌<◌, ◌≤◌, length};
 ghost use Rattle.score.specs.Inputs.{productions_in, words_in, HasEntry, stage, stage_at, entries_in};
 ghost use Rattle.score.specs.Filling.{Kept, Fills, Blank, AllRight};
 

@@ -15,11 +15,7 @@ impl<'a, 's, S: Semiring> Sums<'a, 's, S> {
         requires high { 16 ≤ kind }
         ensures { Makes S.Semiring.scale self.now.input.now self.now.table.now entry.production (suc entry.dot) entry.span.start entry.span.end result }
     {
-        let Entry {
-            production,
-            dot,
-            span,
-        } = entry;
+        let span = entry.span;
         if span.end <= span.start {
             return S::none();
         }
@@ -28,12 +24,11 @@ impl<'a, 's, S: Semiring> Sums<'a, 's, S> {
             return S::none();
         }
         self.held(Entry {
-            production,
-            dot,
             span: Span {
                 start: span.start,
                 end: last,
             },
+            ..entry
         })
     }
 
@@ -56,18 +51,12 @@ impl<'a, 's, S: Semiring> Sums<'a, 's, S> {
         requires inside { HasEntry self.now.input.now entry }
         ensures { Makes S.Semiring.scale self.now.input.now self.now.table.now entry.production entry.dot entry.span.start entry.span.end result }
     {
-        let Entry {
-            production,
-            dot,
-            span,
-        } = entry;
-        if dot > 0 {
+        if entry.dot > 0 {
             self.after(Entry {
-                production,
-                dot: dot - 1,
-                span,
+                dot: entry.dot - 1,
+                ..entry
             })
-        } else if span.start == span.end {
+        } else if entry.span.start == entry.span.end {
             S::one()
         } else {
             S::none()

@@ -1,4 +1,4 @@
-use Rattle.std.proofs.Common.{ℕ, ◌+◌, ◌<◌, ◌≤◌, List, length, get_or, refl, subst, ⊎_elim, arith, rules}
+use Rattle.std.proofs.Common.{◌≡◌, ℕ, ◌+◌, ◌<◌, ◌≤◌, List, length, get_or, Option, Some, None, MatchOption, sym, refl, subst, ⊎_elim, arith, rules}
 use Rattle.std.proofs.lemmas.Bool.{cases_lt}
 use Rattle.bitset.specs.Bits.{Has}
 use Rattle.score.specs.Tails.{Tail}
@@ -23,14 +23,15 @@ module _ (set : ℕ) (xs : List ℕ) where
     least = λ j h. omega arith;
   }
 
-pub returns-in-Some : goal.returns-in-Some
-returns-in-Some c =
-    let low : c.in-Some.last < length c.args.right.now = search rules in
-    let out : ¬ Has c.args.set (get_or c.args.right.now c.in-Some.last 0) = search rules in
-    let all : (m : ℕ) → c.in-Some.last < m → m < length c.args.right.now → Has c.args.set (get_or c.args.right.now m 0) = search rules in
-    tail_behind c.args.set c.args.right.now c.in-Some.last low out all
+  -- so wherever the last symbol that is not in the set stands
+  tail_by_last :
+      (o : Option ℕ) (t : ℕ) →
+      MatchOption o ((m : ℕ) → m < length xs → Has set (get_or xs m 0))
+      (λ k. (k < length xs) × (¬ Has set (get_or xs k 0)) × ((m : ℕ) → k < m → m < length xs → Has set (get_or xs m 0))) →
+      MatchOption o (t ≡ 0) (λ k. t ≡ k + 1) →
+      Tail (Has set) xs t
+  tail_by_last None t all e = subst (Tail (Has set) xs) (sym e) (tail_all all)
+  tail_by_last (Some k) t (low, out, all) e = subst (Tail (Has set) xs) (sym e) (tail_behind k low out all)
 
-pub returns-in-None : goal.returns-in-None
-returns-in-None c =
-    let all : (m : ℕ) → m < length c.args.right.now → Has c.args.set (get_or c.args.right.now m 0) = search rules in
-    tail_all c.args.set c.args.right.now all
+pub returns : goal.returns
+returns c = tail_by_last c.args.set c.args.right.now c.rposition.result c.map_or.result (search rules) (search rules)

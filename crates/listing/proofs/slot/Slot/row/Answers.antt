@@ -1,18 +1,12 @@
-use Rattle.std.proofs.Common.{rules, ℕ, ap, inl, inr, arith}
-use Rattle.std.specs.declared.ops.Range.{Range}
-use Rattle.bitset.proofs.Digits.{none_of_zero}
+use Rattle.std.proofs.Common.{◌+◌, arith, rules, tests}
+use Rattle.bitset.proofs.Passing.{chosen_has}
 use Rattle.listing.specs.Asked.{InRow}
-use Rattle.listing.proofs.Filtering.{filtered}
 use Rattle.listing.proofs.slot.Slot.row.Goals as goal
 
 pub returns : goal.returns
 returns c e =
     let slot = c.args.self.now in
-    let r = c.fold.ensures.ran in
-    let first = ap (λ (x : Range ℕ). x.start) c.filter.ensures.source in
-    let last = ap (λ (x : Range ℕ). x.end) c.filter.ensures.source in
-    let all = filtered _ _ _ _ (InRow slot.node slot.place slot.next) (λ x q h. search rules) (λ x q h. search rules) (λ a x b q h. search rules)
-    r.0 c.filter.result 0 c.fold.result r.1 c.filter.ensures.closure r.2 r.3 e in (
-      (λ has. elim (all.0 has) [ inl none ↦ absurd (none_of_zero e none) | inr in_range ↦ in_range.2 ]),
-      λ row. let low = row.0 in let high = row.1 in all.1 (inr (omega arith, omega arith, row)),
-    )
+    let node = slot.node in
+    let set = chosen_has (InRow node slot.place slot.next) c.chosen.result node.start (node.end + 1) c.chosen.ensures.passed
+    c.chosen.ensures.failed (λ x low high t. search (rules, tests)) (λ x low high f. search (rules, tests)) e in
+    (λ has. (set.0 has).2, λ row. let low = row.0 in let high = row.1 in set.1 (low, omega arith, row))
