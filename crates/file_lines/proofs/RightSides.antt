@@ -78,9 +78,6 @@ module _ (text rest : List ℕ) (ss : List Symbol) (p : Progress text rest ss) w
   pub behind_semicolon : (q : SemicolonAt rest 0) → take (length rest - 2) (drop 2 rest) ≡ q.0
   behind_semicolon q = take_rest rest 2 ∙ ap (drop 2) q.1
 
-  pub room_behind : SemicolonAt rest 0 → 2 ≤ length rest
-  room_behind q = omega (arith, ap length q.1)
-
   pub price_is : (q : SemicolonAt rest 0) (all : List Symbol) (price : ℕ) → ValidSymbols all → text ≡ spaced (right_parts all price) → q.0 ≡ decimal price
   price_is q all price v e =
       let s = p.splits all price v e in

@@ -49,10 +49,6 @@ module _ {X Y : Type 0} (g : X → Y) (f : Y → List ℕ) (xs : List X) (w : Te
       ∙ ap (flat_map f) (map-append g (take i xs) (drop i xs))
       ∙ joined_append f (map g (take i xs)) (map g (drop i xs))
 
-  -- after the last turn
-  pub all_written : (v : TextWriter) (i : ℕ) (a : Result (Unit {0}) FileRefusal) → length xs ≤ i → WrittenTo i a v → Writes w (flat_map f (map g xs)) a v
-  all_written v i a l h = writes_same w v _ _ a (ap (λ (t : List X). flat_map f (map g t)) (sym (take_all i xs l))) h
-
   -- the exit of a `?` in a turn
   pub stopped :
       (a : Result (Unit {0}) FileRefusal) (k : FileRefusal) →

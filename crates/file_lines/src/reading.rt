@@ -8,10 +8,7 @@ use syntax::reading::{cut_at, read_number, read_relation};
 pub fn read_mark(text: &[u8]) -> Option<&[u8]>
     ensures { ReadsMark text.now result }
 {
-    match text {
-        [b'R', b'B', b'K', b' ', b'1', b'\n', rest @ ..] => Some(rest),
-        _ => None,
-    }
+    text.strip_prefix(b"RBK 1\n")
 }
 
 // The start symbol that the second line gives, and what follows the line; none where the text does not begin with such a line.
@@ -38,10 +35,7 @@ pub fn read_start(text: &[u8]) -> Option<(u8, &[u8])>
 pub fn cut_word(line: &[u8]) -> Option<&[u8]>
     ensures { CutsWord line.now result }
 {
-    match line {
-        [b'w', b'o', b'r', b'd', b' ', part @ ..] => Some(part),
-        _ => None,
-    }
+    line.strip_prefix(b"word ")
 }
 
 // The left nonterminal of a production line and what stands behind its sign =; none where the line does not begin so.
@@ -81,8 +75,5 @@ pub fn at_semicolon(text: &[u8]) -> bool
     ensures yes { result ≡ true → SemicolonAt text.now 0 }
     ensures no { result ≡ false → ¬ SemicolonAt text.now 0 }
 {
-    match text {
-        [b';', b' ', ..] => true,
-        _ => false,
-    }
+    text.starts_with(b"; ")
 }

@@ -1,7 +1,9 @@
-ghost use Rattle.std.specs.Prelude.{◌≡◌};
+ghost use Rattle.std.specs.Prelude.{◌≡◌, Some};
 ghost use Rattle.file_model.specs.Files.{fault};
+ghost use Rattle.file_model.specs.Faults.{refusal_report};
 
 use grammar::refusals::{FileRefusal, Refusal};
+use std::fmt;
 
 // Why a text is no grammar file: the refusal, with its layer, and the line, counted from 1; 0 speaks of the whole text.
 #[derive(Clone, Copy, PartialEq, Eq, Debug)]
@@ -19,5 +21,15 @@ impl Fault {
             refusal: refusal.into(),
             line,
         }
+    }
+}
+
+impl fmt::Display for Fault {
+    ghost output = { λ f. Some (refusal_report f) };
+
+    fn fmt<W: fmt::Write>(&self, f: &mut fmt::Formatter<W>) -> fmt::Result {
+        let number = self.refusal.number();
+        let line = self.line;
+        write!(f, "book refused {number} line {line}")
     }
 }

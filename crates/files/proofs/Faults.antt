@@ -1,6 +1,5 @@
 -- What is refused, told by `?`. Assumes nothing.
-use Rattle.std.proofs.Common.{◌≡◌, ℕ, ◌<◌, List, Some, None, Option, Err, refl, inl, inr, ⊎_elim, arith}
-use Rattle.std.specs.Option.{ok_or}
+use Rattle.std.proofs.Common.{ℕ, ◌<◌, List, Err, refl, inl, inr, ⊎_elim, arith}
 use Rattle.grammar.specs.declared.refusals.DraftRefusal.TheVariants.{LongRight}
 use Rattle.grammar.specs.Grammar.{Production}
 use Rattle.syntax.specs.Syntax.{Symbol, ValidSymbols, production_line}
@@ -17,11 +16,6 @@ use Rattle.spellings.proofs.Gathering.{right_in_range}
 use Rattle.spellings.proofs.Written.{few_words}
 use Rattle.files.specs.declared.spelled.SpelledDraft.{SpelledDraft}
 use Rattle.files.specs.Model.{model}
-
--- an error of `ok_or` is the one that was given, and there was no value
-pub none_given : {A E : Type 0} (o : Option A) (e f : E) → Err f ≡ ok_or o e → (o ≡ None) × (f ≡ e)
-none_given (Some a) e f h = absurd (cc)
-none_given None e f h = (refl, cc)
 
 -- a production line whose right side is at fault
 pub line_at_fault :

@@ -13,9 +13,6 @@ use Rattle.files.specs.Reading.{IsWord, IsProduction, IsRule, ReadsAs, as_form, 
 same_tail : (x y : List ℕ) → 119 ∷ 111 ∷ 114 ∷ 100 ∷ 32 ∷ x ≡ 119 ∷ 111 ∷ 114 ∷ 100 ∷ 32 ∷ y → x ≡ y
 same_tail x y e = cc
 
-same_right : (a b : ℕ) (x y : List ℕ) → a ∷ 32 ∷ 61 ∷ 32 ∷ x ≡ b ∷ 32 ∷ 61 ∷ 32 ∷ y → x ≡ y
-same_right a b x y e = cc
-
 same_head : (a b : ℕ) (x y : List ℕ) → a ∷ x ≡ b ∷ y → a ≡ b
 same_head a b x y e = cc
 
@@ -24,17 +21,6 @@ pub word_part : (part : List ℕ) (f : Line) → IsWord f → HasForm (119 ∷ 1
 word_part part (word_line w) s h = (w, h.0, same_tail part (spelling_text w) (h.1 ∙ render_word w))
 word_part part (production_line left ss price) s h = absurd s
 word_part part (rule_line upper r lower) s h = absurd s
-
--- the right side of a production line
-pub production_part :
-    (left : ℕ) (text : List ℕ) (f : Line) →
-    IsProduction f →
-    HasForm ((65 + left) ∷ 32 ∷ 61 ∷ 32 ∷ text) f →
-    (ss : List Symbol) × (price : ℕ) × ValidSymbols ss × (price ≤ 65535) × (text ≡ spaced (right_parts ss price))
-production_part left text (word_line w) s h = absurd s
-production_part left text (production_line l ss price) s h =
-    (ss, price, h.0.1, h.0.2, same_right (65 + left) (65 + l) text (spaced (right_parts ss price)) (h.1 ∙ render_production l ss price))
-production_part left text (rule_line upper r lower) s h = absurd s
 
 -- a rule line begins with a digit
 rule_begins : (upper : ℕ) (x line : List ℕ) → upper ≤ 65535 → line ≡ decimal upper ++ x → (48 ≤ get_or line 0 0) × (get_or line 0 0 ≤ 57)
@@ -86,8 +72,3 @@ pub only_rule :
 only_rule line a b (word_line w) h = a (spelling_text w) (h.1 ∙ render_word w)
 only_rule line a b (production_line left ss price) h = b left (spaced (right_parts ss price)) h.0.0 (h.1 ∙ render_production left ss price)
 only_rule line a b (rule_line upper r lower) h = tt
-
-pub rule_part : (line : List ℕ) (f : Line) → IsRule f → HasForm line f → (upper : ℕ) × (r : Relation) × (lower : ℕ) × HasForm line (rule_line upper r lower)
-rule_part line (word_line w) s h = absurd s
-rule_part line (production_line left ss price) s h = absurd s
-rule_part line (rule_line upper r lower) s h = (upper, r, lower, h)

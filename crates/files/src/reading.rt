@@ -82,7 +82,8 @@ impl SpelledDraft {
     {
         let mut rest = text;
         let mut line = 3;
-        while !rest.is_empty() {
+        // (a loop: the lines end with the text, and each may refuse it)
+    while !rest.is_empty() {
             let Some((form, behind)) = cut_at(rest, b'\n') else {
                 return Err(Fault::in_file(FileRefusal::Form, line));
             };

@@ -3,3 +3,4 @@ pub mod Cutting
 pub mod Nexts
 pub mod Kinding
 pub mod Putting
+pub mod Mapping

@@ -38,13 +38,11 @@ fn put_word(
 ) -> Result<(), LineFault>
     ensures { PutsWord (words spellings.now) reading.old (word_of word.entry, place) result reading.new }
 {
-    let Some(kind) = kind_of(spellings, word) else {
-        return Err(LineFault::unknown_word(place));
-    };
-    match reading.put(kind) {
-        Ok(_) => Ok(()),
-        Err(refusal) => Err(LineFault::of_words(refusal, place)),
-    }
+    let kind = kind_of(spellings, word).ok_or(LineFault::unknown_word(place))?;
+    reading
+        .put(kind)
+        .map_err(|refusal| LineFault::of_words(refusal, place))?;
+    Ok(())
 }
 
 // Puts the words of a line one by one behind those that stand, and answers how many then stand. The first refusal ends the line; the

@@ -1,9 +1,9 @@
 -- What the programs say of a book. Assumes nothing.
 use Rattle.std.specs.Prelude.{◌≡◌, ℕ, List, ◌++◌, length, Ok, Err, Result, Some, None, Option, codes, decimal}
-use Rattle.grammar.specs.Refusals.{number as number_of}
 use Rattle.file_model.specs.declared.fault.Fault.{Fault}
 use Rattle.file_model.specs.Spelled.{Spelled}
 use Rattle.file_model.specs.Files.{Reads}
+pub use Rattle.file_model.specs.Faults.{refusal_report}
 use Rattle.files.specs.declared.spelled.SpelledDraft.{SpelledDraft}
 use Rattle.files.specs.Model.{model}
 use Rattle.reports.specs.declared.summary.Summary.{Summary}
@@ -21,7 +21,3 @@ Opened text None = (f : Fault) × (s : Spelled) × OutcomeOf text s (Err f)
 -- the line that is printed of a book that is read
 abbrev pub report : Summary → List ℕ
 report s = codes "RBK " ++ (decimal s.version ++ (codes " productions " ++ (decimal s.productions ++ (codes " rules " ++ decimal s.rules))))
-
--- the line that is printed of a text that is refused
-abbrev pub refusal_report : Fault → List ℕ
-refusal_report f = codes "book refused " ++ (decimal (number_of f.refusal) ++ (codes " line " ++ decimal f.line))

@@ -1,7 +1,7 @@
 ghost use Rattle.std.specs.Prelude.{◌≡◌, IfOk};
 ghost use Rattle.reports.specs.Reports.{Opened};
 
-use crate::summary::{RefusedBook, read_book};
+use crate::summary::read_book;
 use files::spelled::SpelledDraft;
 use std::io;
 use std::io::Read;
@@ -30,8 +30,7 @@ pub fn print_book(rt: &HostRuntime, text: &[u8]) -> io::Result<Option<SpelledDra
             Ok(Some(book))
         }
         Err(fault) => {
-            let refused = RefusedBook { fault };
-            println!(rt; "{refused}")?;
+            println!(rt; "{fault}")?;
             Ok(None)
         }
     }

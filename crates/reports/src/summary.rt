@@ -1,6 +1,6 @@
 ghost use Rattle.std.specs.Prelude.{Some};
 ghost use Rattle.files.specs.Model.{model};
-ghost use Rattle.reports.specs.Reports.{report, refusal_report, OutcomeOf};
+ghost use Rattle.reports.specs.Reports.{report, OutcomeOf};
 
 use file_model::fault::Fault;
 use files::spelled::SpelledDraft;
@@ -14,12 +14,6 @@ pub struct Summary {
     pub rules: usize,
 }
 
-// Why a text is no grammar file, as it is printed.
-#[derive(Clone, Copy, PartialEq, Eq, Debug)]
-pub struct RefusedBook {
-    pub fault: Fault,
-}
-
 impl fmt::Display for Summary {
     ghost output = { λ s. Some (report s) };
 
@@ -30,16 +24,6 @@ impl fmt::Display for Summary {
             rules,
         } = self;
         write!(f, "RBK {version} productions {productions} rules {rules}")
-    }
-}
-
-impl fmt::Display for RefusedBook {
-    ghost output = { λ b. Some (refusal_report b.fault) };
-
-    fn fmt<W: fmt::Write>(&self, f: &mut fmt::Formatter<W>) -> fmt::Result {
-        let number = self.fault.refusal.number();
-        let line = self.fault.line;
-        write!(f, "book refused {number} line {line}")
     }
 }
 

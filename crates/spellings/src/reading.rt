@@ -39,6 +39,7 @@ pub fn read_right(text: &[u8], spellings: &Spellings) -> Option<PricedRight>
 {
     let mut right = Ok(Bytes::empty());
     let mut rest = text;
+    // (a loop: the parts end at the semicolon, and each may refuse the line)
     while !at_semicolon(rest) {
         let (part, behind) = cut_at(rest, b' ')?;
         let symbol = read_symbol(part)?;

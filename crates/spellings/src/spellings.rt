@@ -5,7 +5,7 @@ use syntax::spelling::Spelling;
 
 mod methods;
 
-// The spellings of the kinds from 16 on, in order of declaration, at most 32.
+// The spellings of the kinds from 16 on, in order of declaration, at most 32. (No heap; the list of bytes holds only bytes.)
 #[derive(Clone, Copy)]
 pub struct Spellings {
     words: [Spelling; 32],

@@ -1,5 +1,5 @@
 -- What lies before the first index of a byte, and behind it.
-use Rattle.std.proofs.Common.{◌≡◌, ℕ, ◌+◌, ◌-◌, ◌<◌, ◌≤◌, List, ◌∷◌, ◌++◌, length, take, drop, sym, ap, ◌∙◌, arith, take_all}
+use Rattle.std.proofs.Common.{◌≡◌, ℕ, ◌+◌, ◌-◌, ◌<◌, ◌≤◌, List, ◌∷◌, ◌++◌, length, take, drop, sym, ap, ◌∙◌, arith}
 use Rattle.std.proofs.lemmas.List.{length-take, length-drop, take-append-drop, drop-drop, drop_more, get_or-take, get_or-drop}
 use Rattle.syntax.specs.Reading.{FirstIndex}
 use Rattle.syntax.specs.Free.{FreeOf}
@@ -26,11 +26,3 @@ split_found bytes from b r i h =
     ∙ drop_more bytes r 0 h
     ∙ ap (λ c. c ∷ drop (r + 1) bytes) (i.found h) in
     sym (take-append-drop (r - from) (drop from bytes)) ∙ ap (λ t. take (r - from) (drop from bytes) ++ t) rest
-
--- where it is not, all that is left lies before
-pub split_none :
-    (bytes : List ℕ) (from b r : ℕ) →
-    FirstIndex bytes from b r →
-    length bytes ≤ r →
-    drop from bytes ≡ take (r - from) (drop from bytes)
-split_none bytes from b r i h = sym (take_all (r - from) (drop from bytes) (omega (arith, length-drop from bytes)))

@@ -15,10 +15,6 @@ pub overlaid_none : (b : List ℕ) (at : ℕ) → overlaid b at [] ≡ b
 unfolding overlaid
 overlaid_none b at = refl
 
-pub overlaid_one : (b : List ℕ) (at x : ℕ) → overlaid b at (x ∷ []) ≡ set b at x
-unfolding overlaid
-overlaid_one b at x = refl
-
 pub overlaid_append : (b : List ℕ) (at : ℕ) (xs ys : List ℕ) → overlaid b at (xs ++ ys) ≡ overlaid (overlaid b at xs) (at + length xs) ys
 unfolding overlaid
 overlaid_append b at [] ys = ap (λ n. overlaid b n ys) (sym (add-zero at))

@@ -114,15 +114,15 @@ pub fn read_letter(part: &[u8]) -> Option<u8>
     }
 }
 
-// The relation whose sign the byte is.
+// The relation whose sign the byte is. (Not of Relation itself: signs belong to files.)
 pub fn read_relation(sign: u8) -> Option<Relation>
     ensures { ReadsRelation sign result }
 {
-    match sign as char {
-        '>' => Some(Relation::Priority),
-        'L' => Some(Relation::Left),
-        'R' => Some(Relation::Right),
-        'N' => Some(Relation::NonAssoc),
+    match sign {
+        b'>' => Some(Relation::Priority),
+        b'L' => Some(Relation::Left),
+        b'R' => Some(Relation::Right),
+        b'N' => Some(Relation::NonAssoc),
         _ => None,
     }
 }

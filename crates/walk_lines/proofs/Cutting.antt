@@ -7,7 +7,7 @@ use Rattle.reading.specs.declared.reading.Reading.{Reading}
 use Rattle.lines.specs.declared.fault.LineFault.{LineFault}
 use Rattle.lines.specs.Lines.{PutsLine, too_long, by_words}
 use Rattle.walk_lines.specs.Buffers.{kept}
-use Rattle.walk_lines.specs.declared.verdict.Scores.{Scores}
+use Rattle.walk_lines.specs.declared.scores.Scores.{Scores}
 use Rattle.walk_lines.specs.Verdicts.{LineJudged, word_refused, words_put, JudgedByKept}
 
 module _ (line : List ℕ) (long : 16384 < length line) where

@@ -5,7 +5,7 @@ use Rattle.std.proofs.lemmas.List.{append_assoc, length_push, length-append, get
 use Rattle.syntax.specs.Free.{FreeOf}
 use Rattle.file_model.specs.Files.{LineOf}
 use Rattle.walk_lines.specs.declared.session.Session.{Session}
-use Rattle.walk_lines.specs.declared.verdict.LineReport.{LineReport}
+use Rattle.walk_lines.specs.declared.scores.LineReport.{LineReport}
 use Rattle.walk_lines.specs.Buffers.{held, kept, TakesOn}
 use Rattle.walk_lines.specs.Sessions.{EndsLine, Gathers, TakesPart, gathered, line_ended, Took, PartsJoin}
 use Rattle.walk_lines.proofs.Buffering.{kept_again}

@@ -8,7 +8,7 @@ use Rattle.reading.specs.Readings.{Long, Marks, Put, cells}
 use Rattle.lines.specs.declared.fault.LineFault.{LineFault}
 use Rattle.lines.specs.Cuts.{Placed}
 use Rattle.lines.specs.Lines.{PutsWord, unknown, refused, taken, PutsWords, all_put, one_refused, one_put, PutsLine, too_long, by_words}
-use Rattle.walk_lines.specs.declared.verdict.Scores.{Scores}
+use Rattle.walk_lines.specs.declared.scores.Scores.{Scores}
 use Rattle.walk_lines.specs.Verdicts.{WordsJudged, Opens, LineJudged, word_refused, words_put}
 
 -- the same grammar, as many cells, and a chart that marked the words still does

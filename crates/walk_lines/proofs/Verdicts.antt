@@ -1,14 +1,15 @@
 -- Verdicts from what the calls of a reading answer. Assumes nothing.
-use Rattle.std.proofs.Common.{◌≡◌, ℕ, Bool, true, false, Ok, Err, Result, sym, refl, ap, ◌∙◌, subst, arith}
+use Rattle.std.proofs.Common.{◌≡◌, ℕ, true, false, Ok, Err, Result, sym, refl, ap, ◌∙◌, subst, arith}
 use Rattle.std.proofs.lemmas.Bool.{true≢false}
 use Rattle.grammar.specs.declared.refusals.ReadingRefusal.{ReadingRefusal}
 use Rattle.grammar.specs.declared.refusals.ReadingRefusal.TheVariants.{LineFull, NoKind, NothingBegins, NoWord, NoSentence, ShortChart, ShortListing, ShortTable}
 use Rattle.grammar.specs.declared.refusals.Refusal.TheVariants.{Reading as Layer}
 use Rattle.grammar.specs.Refusals.{number as number_of}
+use Rattle.reading.specs.declared.look.Look.{Look}
 use Rattle.reading.specs.declared.reading.Reading.{Reading}
 use Rattle.reading.specs.Readings.{Long, Marks, Looked, ScoreCause, chart_too_short, table_too_short, ScoreRefused, cells}
 use Rattle.lines.specs.Lines.{fault}
-use Rattle.walk_lines.specs.declared.verdict.Scores.{Scores}
+use Rattle.walk_lines.specs.declared.scores.Scores.{Scores}
 use Rattle.walk_lines.specs.Verdicts.{TablesShort, BothScores, WordsJudged, chart_short, no_sentence, tables_short, scored}
 
 module _ (r : Reading) where
@@ -43,29 +44,29 @@ module _ (r : Reading) where
     judged_short e h = subst (λ x. WordsJudged r end (Err (fault (Layer x) 0))) (sym h.1) (chart_short h.0)
 
     -- no sentence
-    pub judged_none : (s : Bool) (mask : ℕ) → Looked r (Ok (s, mask)) → (Long (cells r) → Marks r) → s ≡ false → WordsJudged r end (Err (fault (Layer NoSentence) end))
-    judged_none s mask h marks f = no_sentence h.0 (λ t. true≢false (sym ((h.1 (marks h.0)).whole.1 t) ∙ f))
+    pub judged_none : (k : Look) → Looked r (Ok k) → (Long (cells r) → Marks r) → k.sentence ≡ false → WordsJudged r end (Err (fault (Layer NoSentence) end))
+    judged_none k h marks f = no_sentence h.0 (λ t. true≢false (sym ((h.1 (marks h.0)).whole.1 t) ∙ f))
 
     -- a sentence for which the tables are too short
     pub judged_unscored :
-        (s : Bool) (mask : ℕ) (e : ReadingRefusal) →
-        Looked r (Ok (s, mask)) →
+        (k : Look) (e : ReadingRefusal) →
+        Looked r (Ok k) →
         (Long (cells r) → Marks r) →
-        s ≡ true →
+        k.sentence ≡ true →
         BothScores r (Err e) →
         WordsJudged r end (Err (fault (Layer e) 0))
-    judged_unscored s mask e h marks t b =
+    judged_unscored k e h marks t b =
         let c = short_cause (number_of (Layer e)) b.0 h.0 in
         subst (λ x. WordsJudged r end (Err (fault (Layer x) 0))) (sym (short_table e c.0)) (tables_short h.0 ((h.1 (marks h.0)).whole.0 t) c.1)
 
     -- a sentence with its scores
     pub judged_scored :
-        (s : Bool) (mask : ℕ) (x : Scores) →
-        Looked r (Ok (s, mask)) →
+        (k : Look) (x : Scores) →
+        Looked r (Ok k) →
         (Long (cells r) → Marks r) →
-        s ≡ true →
+        k.sentence ≡ true →
         BothScores r (Ok x) →
         WordsJudged r end (Ok x)
-    judged_scored s mask x h marks t (c, p, long, a, b, i, j) =
-        subst (λ k. WordsJudged r end (Ok (record { trees = k; price = x.price }))) (sym i)
-        (subst (λ k. WordsJudged r end (Ok (record { trees = c.value; price = k }))) (sym j) (scored h.0 ((h.1 (marks h.0)).whole.0 t) long a b))
+    judged_scored k x h marks t (c, p, long, a, b, i, j) =
+        subst (λ n. WordsJudged r end (Ok (record { trees = n; price = x.price }))) (sym i)
+        (subst (λ n. WordsJudged r end (Ok (record { trees = c.value; price = n }))) (sym j) (scored h.0 ((h.1 (marks h.0)).whole.0 t) long a b))

@@ -6,7 +6,7 @@ use Rattle.draft.specs.Sealed.{sealed_model}
 use Rattle.file_model.specs.Spelled.{Spelled}
 use Rattle.spellings.specs.Model.{words}
 use Rattle.walk_lines.specs.declared.session.Session.{Session}
-use Rattle.walk_lines.specs.declared.verdict.LineReport.{LineReport}
+use Rattle.walk_lines.specs.declared.scores.LineReport.{LineReport}
 use Rattle.walk_lines.specs.Buffers.{held, kept}
 use Rattle.walk_lines.specs.Verdicts.{LineJudged}
 

@@ -16,8 +16,8 @@ use Rattle.reading.specs.Readings.{Long, Opened, ScoreRefused, words, cells, gra
 use Rattle.lines.specs.declared.fault.LineFault.{LineFault}
 use Rattle.lines.specs.Lines.{PutsLine, fault, fault_report}
 use Rattle.walk_lines.specs.Buffers.{kept}
-use Rattle.walk_lines.specs.declared.verdict.Scores.{Scores}
-use Rattle.walk_lines.specs.declared.verdict.LineReport.{LineReport}
+use Rattle.walk_lines.specs.declared.scores.Scores.{Scores}
+use Rattle.walk_lines.specs.declared.scores.LineReport.{LineReport}
 
 -- a table of 8,000 entries has too few for the places of the productions and the spans of the words
 abbrev pub TablesShort : Reading → Type 0

@@ -4,7 +4,7 @@ ghost use Rattle.reading.specs.Readings.{Long, Marks, cells};
 ghost use Rattle.walk_lines.specs.Verdicts.{WordsJudged, LineJudged};
 
 use crate::score_tables::ScoreTables;
-use crate::verdict::Scores;
+use crate::scores::Scores;
 use draft::sealed::Grammar;
 use grammar::refusals::ReadingRefusal;
 use lines::fault::LineFault;
@@ -16,17 +16,15 @@ use spellings::spellings::Spellings;
 fn judge_words(reading: &Reading, tables: &mut ScoreTables, end: usize) -> Result<Scores, LineFault>
     ensures { (Long (cells reading.now) → Marks reading.now) → WordsJudged reading.now end result }
 {
-    let sentence = match reading.look() {
-        Ok(look) => look.sentence,
-        Err(refusal) => return Err(LineFault::of_words(refusal, 0)),
-    };
-    if !sentence {
+    let look = reading
+        .look()
+        .map_err(|refusal| LineFault::of_words(refusal, 0))?;
+    if !look.sentence {
         return Err(LineFault::of_words(ReadingRefusal::NoSentence, end));
     }
-    match tables.scores(reading) {
-        Ok(scores) => Ok(scores),
-        Err(refusal) => Err(LineFault::of_words(refusal, 0)),
-    }
+    tables
+        .scores(reading)
+        .map_err(|refusal| LineFault::of_words(refusal, 0))
 }
 
 // What the line is, read by the grammar and the spellings of its kinds.

@@ -7,7 +7,7 @@ mod judging;
 mod line_buffer;
 mod score_tables;
 mod session;
-mod verdict;
+mod scores;
 
 use reports::input::{BOOK, print_book, reported};
 use session::Session;
@@ -22,12 +22,13 @@ fn read_lines<W: io::Write>(
 ) -> io::Result<()> {
     let mut input = rt.stdin();
     let mut part = [0u8; 8192];
+    // (a bound, since input may never end and a loop must)
     for _ in 0..u64::MAX {
         let count = reported(rt, "standard input", input.read(&mut part))?;
         if count == 0 {
             break;
         }
-        session.take(&part[0..count], out)?;
+        session.take(&part[..count], out)?;
     }
     session.finish(out)
 }

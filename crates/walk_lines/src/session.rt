@@ -2,6 +2,7 @@ ghost use Rattle.std.specs.Prelude.{◌≡◌, length};
 
 use crate::line_buffer::LineBuffer;
 use crate::score_tables::ScoreTables;
+use chart::CELL_COUNT;
 use draft::sealed::Grammar;
 use spellings::spellings::Spellings;
 
@@ -12,7 +13,7 @@ mod methods;
 pub struct Session {
     grammar: Grammar,
     spellings: Spellings,
-    chart: [u64; 4802],
+    chart: [u64; CELL_COUNT],
     tables: ScoreTables,
     buffer: LineBuffer,
     count: u64,

@@ -79,7 +79,7 @@ impl Spellings {
         if self.count >= 32 {
             return Err(FileRefusal::Declared);
         }
-        if let Some(_) = self.kind_of(&word) {
+        if self.kind_of(&word).is_some() {
             return Err(FileRefusal::Declared);
         }
         let at = self.count;

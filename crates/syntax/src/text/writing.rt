@@ -8,7 +8,7 @@ use crate::spelling::Spelling;
 use grammar::refusals::FileRefusal;
 use grammar::rule::Relation;
 
-// The sign of the relation.
+// The sign of the relation. (Not of Relation itself: signs belong to files.)
 fn sign_of(relation: Relation) -> u8
     ensures { result ≡ sign relation }
 {

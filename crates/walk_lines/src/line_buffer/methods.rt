@@ -1,19 +1,8 @@
-ghost use Rattle.std.specs.Prelude.{◌≡◌, ℕ, ◌<◌, [], ◌++◌, length, slice_index};
-ghost use Rattle.std.specs.Option.{MatchOption};
-ghost use Rattle.syntax.specs.Free.{FreeOf};
+ghost use Rattle.std.specs.Prelude.{◌≡◌, [], ◌++◌};
 ghost use Rattle.walk_lines.specs.Buffers.{held, kept, TakesOn};
 
 use super::LineBuffer;
-
-const LINE_FEED: u8 = b'\n';
-
-// Where the first line feed of the bytes is.
-fn line_feed(part: &[u8]) -> Option<usize>
-    ensures { MatchOption result (FreeOf 10 part.now)
-        (λ end. (end < length part.now) × (slice_index part.now end ≡ 10) × ((k : ℕ) → k < end → ¬ (slice_index part.now k ≡ 10))) }
-{
-    part.iter().position(|byte| *byte == LINE_FEED)
-}
+use syntax::reading::cut_at;
 
 impl LineBuffer {
     // A buffer that holds no bytes.
@@ -54,11 +43,11 @@ impl LineBuffer {
     pub(crate) fn take<'p>(&mut self, part: &'p [u8]) -> Option<&'p [u8]>
         ensures { TakesOn (held self.old) part.now result (held self.new) }
     {
-        let Some(end) = line_feed(part) else {
+        let Some((line, rest)) = cut_at(part, b'\n') else {
             self.extend(part);
             return None;
         };
-        self.extend(&part[..end]);
-        Some(&part[end + 1..])
+        self.extend(line);
+        Some(rest)
     }
 }

@@ -1,7 +1,7 @@
 ghost use Rattle.walk_lines.specs.Verdicts.{BothScores};
 
 use super::ScoreTables;
-use crate::verdict::Scores;
+use crate::scores::Scores;
 use grammar::refusals::ReadingRefusal;
 use reading::reading::Reading;
 use scales::values::{Count, Price};

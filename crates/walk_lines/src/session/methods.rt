@@ -6,7 +6,8 @@ use super::Session;
 use crate::judging::verdict_of;
 use crate::line_buffer::LineBuffer;
 use crate::score_tables::ScoreTables;
-use crate::verdict::LineReport;
+use crate::scores::LineReport;
+use chart::CELL_COUNT;
 use files::spelled::SpelledDraft;
 use std::io;
 use std::io::Write;
@@ -20,7 +21,7 @@ impl Session {
         Session {
             grammar: draft.seal(),
             spellings,
-            chart: [0; 4802],
+            chart: [0; CELL_COUNT],
             tables: ScoreTables::new(),
             buffer: LineBuffer::new(),
             count: 0,

@@ -1,19 +1,19 @@
-use Rattle.std.proofs.Common.{◌≡◌, ◌-◌, [], ◌∷◌, ◌++◌, length, take, drop, sym, ap, ◌∙◌, arith, rules, ltb-false}
+use Rattle.std.proofs.Common.{◌≡◌, ℕ, List, [], ◌∷◌, ◌++◌, Some, None, Option, Bor, sym, ap, ◌∙◌, rules}
 use Rattle.syntax.proofs.Free.{mark_no_feed}
 use Rattle.syntax.proofs.Lines.{mark_bytes}
-use Rattle.file_lines.proofs.Fronts.{begins}
+use Rattle.file_lines.specs.Reading.{ReadsMark}
 use Rattle.file_lines.proofs.reading.read_mark.Goals as goal
 
-pub returns-in-82 : goal.returns-in-82
-returns-in-82 c =
-    let s = c.args.text.now in
-    record {
-      free = mark_no_feed;
-      is =
-          begins s (82 ∷ 66 ∷ 75 ∷ 32 ∷ 49 ∷ 10 ∷ []) (omega (arith, ltb-false)) (omega arith, (omega arith, (omega arith, (omega arith, (omega arith, (omega arith, tt))))))
-          ∙ ap (λ m. m ++ 10 ∷ take (length s - 6) (drop 6 s)) (sym mark_bytes);
-    }
+-- what follows the mark's bytes, or that the text does not begin with them
+abbrev CutsMark : List ℕ → Option (Bor (List ℕ)) → Type 0
+CutsMark text (Some rest) = text ≡ 82 ∷ 66 ∷ 75 ∷ 32 ∷ 49 ∷ 10 ∷ rest.now
+CutsMark text None = (rest : List ℕ) → ¬ (text ≡ 82 ∷ 66 ∷ 75 ∷ 32 ∷ 49 ∷ 10 ∷ rest)
 
-pub returns-in_default : goal.returns-in_default
-returns-in_default c rest l =
-    let e : c.args.text.now ≡ 82 ∷ 66 ∷ 75 ∷ 32 ∷ 49 ∷ 10 ∷ rest = l.is ∙ ap (λ m. m ++ 10 ∷ rest) mark_bytes in search rules
+reads_mark : (text : List ℕ) (r : Option (Bor (List ℕ))) → CutsMark text r → ReadsMark text r
+reads_mark text (Some rest) e = record { free = mark_no_feed; is = e ∙ ap (λ m. m ++ 10 ∷ rest.now) (sym mark_bytes) }
+reads_mark text None none = λ rest l. none rest (l.is ∙ ap (λ m. m ++ 10 ∷ rest) mark_bytes)
+
+pub returns : goal.returns
+returns c =
+    let cut : CutsMark c.args.text.now c.strip_prefix.result = search rules in
+    reads_mark c.args.text.now c.strip_prefix.result cut
