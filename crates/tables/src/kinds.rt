@@ -38,6 +38,7 @@ impl Source<'_, '_> {
             (KindNext (productions_of self.now.productions.now)) result }
     {
         let mut before = [0u64; 64];
+        // (over `zip` the loop has no number of the production, by which its invariant counts)
         for (p, production) in self.productions.iter().enumerate() {
             mark_kinds(&mut before, production.right(), self.first[p] as usize);
         }

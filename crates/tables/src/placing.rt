@@ -21,7 +21,7 @@ fn firsts(productions: &[Production]) -> [u8; 32]
 {
     let mut first = [0u8; 32];
     let mut place = 0;
-    // (a running sum) Written by index: of what is written through an adapter of `iter_mut` a proof knows nothing.
+    // (a running sum, written by index: of what is written through an adapter of `iter_mut` a proof knows nothing)
     for (i, p) in productions.iter().enumerate() {
         first[i] = place as u8;
         place += p.places();
