@@ -83,7 +83,7 @@ impl SpelledDraft {
         let mut rest = text;
         let mut line = 3;
         // (a loop: the lines end with the text, and each may refuse it)
-    while !rest.is_empty() {
+        while !rest.is_empty() {
             let Some((form, behind)) = cut_at(rest, b'\n') else {
                 return Err(Fault::in_file(FileRefusal::Form, line));
             };

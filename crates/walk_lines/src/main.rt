@@ -6,8 +6,8 @@ mod input_laws;
 mod judging;
 mod line_buffer;
 mod score_tables;
-mod session;
 mod scores;
+mod session;
 
 use reports::input::{BOOK, print_book, reported};
 use session::Session;
