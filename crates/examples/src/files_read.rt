@@ -17,10 +17,8 @@ struct Case<'a>(&'a [u8], Answer);
 
 // Reads the text into the book.
 fn read_into(book: &mut SpelledDraft, text: &[u8]) -> Answer {
-    match book.read(text) {
-        Ok(version) => Ok(version),
-        Err(fault) => Err((fault.refusal.number(), fault.line)),
-    }
+    book.read(text)
+        .map_err(|fault| (fault.refusal.number(), fault.line))
 }
 
 // Reads the text into a new book.

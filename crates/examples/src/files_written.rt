@@ -1,14 +1,10 @@
+use crate::readings::BOOK;
 use crate::same::same_book;
 use files::spelled::SpelledDraft;
 use grammar::refusals::FileRefusal;
 use std::process::Abort;
 use std::test::Fail;
 use syntax::spelling::Spelling;
-
-const BOOK: &[u8] = b"RBK 1\nstart C\n\
-word \"or\"\nword \"and\"\nword \"not\"\nword \"(\"\nword \")\"\nword NAME\n\
-C = C \"or\" C ; 2\nC = C \"and\" C ; 3\nC = \"not\" C ; 1\nC = \"(\" C \")\" ; 0\nC = NAME ; 1\n\
-3 > 2\n2 > 1\n1 L 1\n2 L 2\n";
 
 // The book that the text is.
 fn book_of(rt: &impl Abort, text: &[u8]) -> SpelledDraft {
@@ -19,18 +15,15 @@ fn book_of(rt: &impl Abort, text: &[u8]) -> SpelledDraft {
 
 // Whether the bytes are those of the text, and then only question marks.
 fn holds(bytes: &[u8], text: &[u8]) -> bool {
-    for (i, byte) in bytes.iter().enumerate() {
-        if *byte != text.get(i).copied().unwrap_or(b'?') {
-            return false;
-        }
-    }
-    text.len() <= bytes.len()
+    bytes
+        .strip_prefix(text)
+        .is_some_and(|rest| rest.iter().all(|byte| *byte == b'?'))
 }
 
 // Writes the book into the first bytes of a text.
 fn write_into(book: &SpelledDraft, out: &mut [u8], room: usize) -> Result<usize, FileRefusal> {
     let end = room.min(out.len());
-    book.write(&mut out[0..end])
+    book.write(&mut out[..end])
 }
 
 // Whether writing the book into that much room, at most 256 bytes, gives the answer and these bytes.
@@ -54,7 +47,7 @@ fn written_and_read_back(rt: HostRuntime) -> Result<(), Fail> {
     let mut out = [0; 256];
     let n = book.write(&mut out)?;
     assert!(rt; n <= 256);
-    assert!(rt; same_book(&book, &book_of(&rt, &out[0..n])));
+    assert!(rt; same_book(&book, &book_of(&rt, &out[..n])));
     Ok(())
 }
 
@@ -72,7 +65,7 @@ fn room_for_the_text(rt: HostRuntime) {
     let book = book_of(&rt, BOOK);
     let n = BOOK.len();
     assert!(rt; writes(&book, n, Ok(n), BOOK));
-    assert!(rt; writes(&book, n - 1, Err(FileRefusal::ShortText), &BOOK[0..n - 1]));
+    assert!(rt; writes(&book, n - 1, Err(FileRefusal::ShortText), &BOOK[..n - 1]));
     assert!(rt; writes(&book, 0, Err(FileRefusal::ShortText), b""));
 }
 

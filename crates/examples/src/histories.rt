@@ -1,3 +1,4 @@
+use crate::listings::UNTOUCHED;
 use crate::readings::conditions;
 use agreement::agree;
 use agreement::answer::Answer;
@@ -5,10 +6,8 @@ use agreement::call::Call;
 use agreement::play::play;
 use draft::draft::Draft;
 use draft::sealed::Grammar;
-use grammar::refusals::ReadingRefusal;
-use grammar::refusals::ReadingRefusal::NothingBegins;
+use grammar::refusals::ReadingRefusal::{NoSentence, NoWord, NothingBegins};
 use grammar::rule::Relation;
-use listing_theory::record::Record;
 use reading::look::Look;
 use reading::reading::Reading;
 use scales::values::Count;
@@ -30,57 +29,25 @@ fn shuffled(rt: &impl Abort) -> Grammar {
     draft.seal()
 }
 
-const UNTOUCHED: Record = Record {
-    production: 99,
-    start: 98,
-    end: 97,
-};
-
-// The number of a refusal, and 1000 more.
-fn refused(refusal: ReadingRefusal) -> usize {
-    1000 + usize::from(refusal.number())
-}
-
-// The number of words that a put or a taking back left, or its refusal.
-fn standing(answer: Result<u8, ReadingRefusal>) -> usize {
-    match answer {
-        Ok(count) => usize::from(count),
-        Err(refusal) => refused(refusal),
-    }
-}
-
-// Twice the kinds that a look saw, and 1 more at a sentence, or its refusal.
-fn seen(answer: Result<Look, ReadingRefusal>) -> usize {
-    match answer {
-        Ok(look) => look.kinds as usize * 2 + usize::from(look.sentence),
-        Err(refusal) => refused(refusal),
-    }
-}
-
-// How many records were listed, or the refusal.
-fn listed(answer: Result<usize, ReadingRefusal>) -> usize {
-    match answer {
-        Ok(count) => count,
-        Err(refusal) => refused(refusal),
-    }
-}
-
-// How many trees were counted, or the refusal.
-fn counted(answer: Result<Count, ReadingRefusal>) -> usize {
-    match answer {
-        Ok(score) => score.value as usize,
-        Err(refusal) => refused(refusal),
-    }
-}
-
-// An answer as one number.
-fn outcome(answer: Answer<Count>) -> usize {
-    match answer {
-        Answer::Put(answer) | Answer::TakenBack(answer) => standing(answer),
-        Answer::Looked(answer) => seen(answer),
-        Answer::Listed(answer) => listed(answer),
-        Answer::Scored(answer) => counted(answer),
-    }
+// The answers to what the editor's author types, and one place that no call reaches.
+fn typed_answers() -> [Answer<Count>; 12] {
+    [
+        Answer::TakenBack(Err(NoWord)),
+        Answer::Put(Ok(1)),
+        Answer::Looked(Ok(Look {
+            sentence: true,
+            kinds: 3,
+        })),
+        Answer::Put(Ok(2)),
+        Answer::Listed(Err(NoSentence)),
+        Answer::TakenBack(Ok(1)),
+        Answer::Put(Ok(2)),
+        Answer::Put(Err(NothingBegins)),
+        Answer::Put(Ok(3)),
+        Answer::Listed(Ok(3)),
+        Answer::Scored(Ok(Count { value: 1 })),
+        Answer::Listed(Ok(77)),
+    ]
 }
 
 // The editor's author types NAME or ) and mends it; the cartridge reads NAME or NAME. Both stand at the same words, refuse
@@ -110,9 +77,8 @@ fn editor_and_cartridge(rt: HostRuntime) {
         play(&mut editor, &typed, &mut records, &mut table, &mut answers),
         11
     );
-    let expected = [1012, 1, 7, 2, 1013, 1, 2, 1011, 3, 3, 1, 77];
-    for (answer, number) in answers.iter().zip(&expected) {
-        assert_eq!(rt; outcome(*answer), *number);
+    for (answer, expected) in answers.iter().zip(&typed_answers()) {
+        assert_eq!(rt; *answer, *expected);
     }
     let cartridge_grammar = shuffled(&rt);
     let mut cartridge_chart = [0u64; 4802];
@@ -128,8 +94,8 @@ fn editor_and_cartridge(rt: HostRuntime) {
         ),
         4
     );
-    assert_eq!(rt; outcome(answers[2]), 3);
-    assert_eq!(rt; outcome(answers[3]), 1);
+    assert_eq!(rt; answers[2], Answer::Put(Ok(3)));
+    assert_eq!(rt; answers[3], Answer::Scored(Ok(Count { value: 1 })));
     assert!(rt; agree::<Count>(&editor, &cartridge));
     assert_eq!(rt; editor.put(21), Err(NothingBegins));
     assert_eq!(rt; cartridge.put(21), Err(NothingBegins));
@@ -150,6 +116,6 @@ fn fewer_answers_than_calls(rt: HostRuntime) {
         play(&mut reading, &calls, &mut [], &mut table, &mut answers),
         2
     );
-    assert_eq!(rt; outcome(answers[1]), 2);
+    assert_eq!(rt; answers[1], Answer::Put(Ok(2)));
     assert_eq!(rt; reading.put(21), Ok(3));
 }

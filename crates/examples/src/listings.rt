@@ -26,7 +26,7 @@ fn list_after(
     reading.list(records)
 }
 
-const UNTOUCHED: Record = Record {
+pub(crate) const UNTOUCHED: Record = Record {
     production: 99,
     start: 98,
     end: 97,

@@ -21,24 +21,6 @@ fn score_after<S: Semiring>(
     reading.score(table)
 }
 
-// How many trees the kinds have.
-fn count_after(
-    grammar: &Grammar,
-    kinds: &[u8],
-    table: &mut [Count],
-) -> Result<u32, ReadingRefusal> {
-    Ok(score_after(grammar, kinds, table)?.value)
-}
-
-// The smallest price of a tree of the kinds.
-fn price_after(
-    grammar: &Grammar,
-    kinds: &[u8],
-    table: &mut [Price],
-) -> Result<u32, ReadingRefusal> {
-    Ok(score_after(grammar, kinds, table)?.value)
-}
-
 // The grammar of A = A A and A = "a".
 fn pairs(rt: &impl Abort) -> Draft {
     let mut draft = Draft::new();
@@ -53,15 +35,32 @@ fn conditions_scored(rt: HostRuntime) {
     let mut counts = [Count { value: 7 }; 1000];
     let mut prices = [Price { value: 7 }; 1000];
     let words = [21, 16, 21, 17, 21];
-    assert_eq!(rt; count_after(&grammar, &words, &mut counts), Ok(1));
-    assert_eq!(rt; price_after(&grammar, &words, &mut prices), Ok(8));
-    let line = [21, 17, 18, 21, 16, 21];
-    assert_eq!(rt; count_after(&grammar, &line, &mut counts), Ok(1));
-    assert_eq!(rt; price_after(&grammar, &line, &mut prices), Ok(9));
-    assert_eq!(rt; count_after(&grammar, &[21, 16], &mut counts), Ok(0));
     assert_eq!(rt;
-        price_after(&grammar, &[21, 16], &mut prices),
-        Ok(4_294_967_295)
+        score_after(&grammar, &words, &mut counts),
+        Ok(Count { value: 1 })
+    );
+    assert_eq!(rt;
+        score_after(&grammar, &words, &mut prices),
+        Ok(Price { value: 8 })
+    );
+    let line = [21, 17, 18, 21, 16, 21];
+    assert_eq!(rt;
+        score_after(&grammar, &line, &mut counts),
+        Ok(Count { value: 1 })
+    );
+    assert_eq!(rt;
+        score_after(&grammar, &line, &mut prices),
+        Ok(Price { value: 9 })
+    );
+    assert_eq!(rt;
+        score_after(&grammar, &[21, 16], &mut counts),
+        Ok(Count { value: 0 })
+    );
+    assert_eq!(rt;
+        score_after(&grammar, &[21, 16], &mut prices),
+        Ok(Price {
+            value: 4_294_967_295
+        })
     );
 }
 
@@ -71,14 +70,21 @@ fn conditions_scored(rt: HostRuntime) {
 fn groupings(rt: HostRuntime) {
     let grammar = pairs(&rt).seal();
     let mut table = [Count { value: 7 }; 2420];
-    assert_eq!(rt; count_after(&grammar, &[16; 4], &mut table), Ok(5));
     assert_eq!(rt;
-        count_after(&grammar, &[16; 20], &mut table),
-        Ok(1_767_263_190)
+        score_after(&grammar, &[16; 4], &mut table),
+        Ok(Count { value: 5 })
     );
     assert_eq!(rt;
-        count_after(&grammar, &[16; 21], &mut table),
-        Ok(4_294_967_295)
+        score_after(&grammar, &[16; 20], &mut table),
+        Ok(Count {
+            value: 1_767_263_190
+        })
+    );
+    assert_eq!(rt;
+        score_after(&grammar, &[16; 21], &mut table),
+        Ok(Count {
+            value: 4_294_967_295
+        })
     );
 }
 
@@ -88,7 +94,10 @@ fn one_grouping_to_the_left(rt: HostRuntime) {
     assert_eq!(rt; draft.add_rule(1, Relation::Left, 1), Ok(1));
     let grammar = draft.seal();
     let mut table = [Count { value: 7 }; 125];
-    assert_eq!(rt; count_after(&grammar, &[16; 4], &mut table), Ok(1));
+    assert_eq!(rt;
+        score_after(&grammar, &[16; 4], &mut table),
+        Ok(Count { value: 1 })
+    );
 }
 
 // The second way is cheaper: 1 for A = B C, B = "a" and C = "b" each, in place of 5.
@@ -101,7 +110,10 @@ fn cheapest_tree(rt: HostRuntime) {
     assert_eq!(rt; draft.add_production(2, &[17], 1), Ok(4));
     let grammar = draft.seal();
     let mut table = [Price { value: 7 }; 90];
-    assert_eq!(rt; price_after(&grammar, &[16, 17], &mut table), Ok(3));
+    assert_eq!(rt;
+        score_after(&grammar, &[16, 17], &mut table),
+        Ok(Price { value: 3 })
+    );
 }
 
 // The places of A = "a" A are 0, 1 and 2, those of A = "a" are 3 and 4. With one word the entry of the place d, the origin i
@@ -110,7 +122,10 @@ fn cheapest_tree(rt: HostRuntime) {
 fn entries(rt: HostRuntime) {
     let grammar = rows(&rt);
     let mut table = [Count { value: 7 }; 21];
-    assert_eq!(rt; count_after(&grammar, &[16], &mut table), Ok(1));
+    assert_eq!(rt;
+        score_after(&grammar, &[16], &mut table),
+        Ok(Count { value: 1 })
+    );
     let expected = [
         1, 0, 0, 1, 0, 1, 0, 0, 0, 0, 0, 0, 1, 0, 0, 1, 0, 1, 0, 0, 7,
     ];
@@ -125,13 +140,19 @@ fn entries(rt: HostRuntime) {
 fn short_tables(rt: HostRuntime) {
     let grammar = rows(&rt);
     let mut enough = [Count { value: 7 }; 20];
-    assert_eq!(rt; count_after(&grammar, &[16], &mut enough), Ok(1));
+    assert_eq!(rt;
+        score_after(&grammar, &[16], &mut enough),
+        Ok(Count { value: 1 })
+    );
     let mut short = [Count { value: 7 }; 19];
-    assert_eq!(rt; count_after(&grammar, &[16], &mut short), Err(ShortTable));
+    assert_eq!(rt; score_after(&grammar, &[16], &mut short), Err(ShortTable));
     for entry in &short {
         assert_eq!(rt; entry.value, 7);
     }
-    assert_eq!(rt; count_after(&grammar, &[], &mut short), Ok(0));
+    assert_eq!(rt;
+        score_after(&grammar, &[], &mut short),
+        Ok(Count { value: 0 })
+    );
 }
 
 #[test]
@@ -140,7 +161,7 @@ fn score_on_a_short_chart(rt: HostRuntime) {
     let mut table = [YesNo { yes: true }; 1];
     let mut chart = [0u64; 4801];
     let reading = Reading::open(&grammar, &mut chart);
-    assert!(rt; matches!(reading.score(&mut table), Err(ShortChart)));
+    assert_eq!(rt; reading.score(&mut table), Err(ShortChart));
     assert!(rt; table[0].yes);
 }
 
@@ -155,8 +176,20 @@ fn empty_productions_scored(rt: HostRuntime) {
     let grammar = draft.seal();
     let mut counts = [Count { value: 7 }; 72];
     let mut prices = [Price { value: 7 }; 72];
-    assert_eq!(rt; count_after(&grammar, &[], &mut counts), Ok(1));
-    assert_eq!(rt; price_after(&grammar, &[], &mut prices), Ok(5));
-    assert_eq!(rt; count_after(&grammar, &[16], &mut counts), Ok(2));
-    assert_eq!(rt; price_after(&grammar, &[16], &mut prices), Ok(4));
+    assert_eq!(rt;
+        score_after(&grammar, &[], &mut counts),
+        Ok(Count { value: 1 })
+    );
+    assert_eq!(rt;
+        score_after(&grammar, &[], &mut prices),
+        Ok(Price { value: 5 })
+    );
+    assert_eq!(rt;
+        score_after(&grammar, &[16], &mut counts),
+        Ok(Count { value: 2 })
+    );
+    assert_eq!(rt;
+        score_after(&grammar, &[16], &mut prices),
+        Ok(Price { value: 4 })
+    );
 }
