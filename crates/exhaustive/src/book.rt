@@ -52,6 +52,7 @@ impl Book {
 
     // Adds what may stand at the positions of the productions.
     fn add_children(&mut self, heap: Global, conflicts: &Conflicts) -> Result<(), AllocError> {
+        // (by number: the draft can't be lent while the book changes)
         for number in 1..=32 {
             if let Some(parent) = self.production(number) {
                 self.add_children_of(heap, conflicts, number, parent.right())?;
@@ -78,6 +79,7 @@ impl Book {
 
     // Takes in the trees with one level more.
     fn take_in(&mut self) -> Result<(), AllocError> {
+        // (by number: the draft can't be lent while the book changes)
         for production in 1..=32 {
             if let Some(fewest) = self.fewest_from(Position::first(production)) {
                 self.fewest.insert(production, fewest)?;
@@ -141,6 +143,7 @@ impl Book {
         let production = at.production;
         let parent = self.production(production)?;
         let mut sum = 0usize;
+        // (a loop: a symbol over which no tree can stand ends it)
         for (index, symbol) in parent.right().iter().enumerate().skip(at.index) {
             sum = sum.saturating_add(self.fewest_at(Position { production, index }, *symbol)?);
         }

@@ -1,5 +1,5 @@
 //! Reads the grammar file `book.rbk` in the current folder and lines from standard input, and prints what each line is,
-//! found by trying all trees.
+//! found by trying all trees. Its words, faults and trees are apart from the reader's crates: this program is compared with it.
 
 #![tactic(auto)]
 

@@ -8,7 +8,7 @@ pub struct Trees {
 }
 
 impl Trees {
-    // No trees.
+    // No trees (no option: these are the neutral element of `or`).
     pub const NONE: Trees = Trees {
         count: 0,
         price: u32::MAX,
