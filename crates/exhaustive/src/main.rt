@@ -1,5 +1,5 @@
 //! Reads the grammar file `book.rbk` in the current folder and lines from standard input, and prints what each line is,
-//! found by trying all trees. Its words, faults and trees are apart from the reader's crates: this program is compared with it.
+//! found by trying all trees. How it cuts words, counts trees and prints is apart from the reader's crates: this program is compared with it.
 
 #![tactic(auto)]
 
@@ -16,10 +16,17 @@ mod words;
 use book::Book;
 use fault::LineError;
 use files::spelled::SpelledDraft;
-use reports::input::{BOOK, print_book, read_input};
 use spellings::spellings::Spellings;
+use std::io::Read;
 use std::{fs, io};
 use verdict::verdict_of;
+
+// All that standard input has.
+fn read_input(rt: &HostRuntime) -> io::Result<Vec<u8>> {
+    let mut input = Vec::new(rt.alloc());
+    rt.stdin().read_to_end(&mut input)?;
+    Ok(input)
+}
 
 // Prints a line's number and what the line is.
 fn print_verdict(
@@ -52,12 +59,24 @@ fn print_lines(
     println!(rt; "lines {count}")
 }
 
-fn main(rt: HostRuntime) -> io::Result<()> {
-    let text = fs::read(&rt, BOOK)?;
-    let Some(SpelledDraft { draft, spellings }) = print_book(&rt, text.as_slice())? else {
-        return Ok(());
-    };
+// Prints what the book is and, where it is read, what each line of the input is.
+fn run(rt: &HostRuntime) -> io::Result<()> {
+    let text = fs::read(rt, "book.rbk")?;
+    let mut spelled = SpelledDraft::new();
+    if let Err(fault) = spelled.read(text.as_slice()) {
+        let number = fault.refusal.number();
+        let line = fault.line;
+        return println!(rt; "book refused {number} line {line}");
+    }
+    let SpelledDraft { draft, spellings } = spelled;
+    let productions = draft.production_count();
+    let rules = draft.rule_count();
+    println!(rt; "RBK 1 productions {productions} rules {rules}")?;
     let book = Book::new(rt.alloc(), draft)?;
-    let input = read_input(&rt)?;
-    print_lines(&rt, &book, &spellings, input.as_slice())
+    let input = read_input(rt)?;
+    print_lines(rt, &book, &spellings, input.as_slice())
+}
+
+fn main(rt: HostRuntime) -> io::Result<()> {
+    run(&rt)
 }
