@@ -1,7 +1,7 @@
 -- The bytes of a grammar file, written one after the other. Assumes nothing.
-use Rattle.std.proofs.Common.{◌≡◌, ℕ, ◌+◌, ◌-◌, ◌<◌, ◌≤◌, List, [], ◌∷◌, ◌++◌, map, length, get_or, take, drop, IsErrAnd, Ok, Err, decimal, Result, sym, refl, ap, ◌∙◌, arith}
+use Rattle.std.proofs.Common.{◌≡◌, ℕ, ◌+◌, ◌-◌, ◌<◌, List, [], ◌∷◌, ◌++◌, map, length, get_or, take, drop, IsErrAnd, Ok, Err, decimal, Result, sym, refl, ap, ◌∙◌, arith}
 use Rattle.std.specs.List.{flat_map}
-use Rattle.std.proofs.lemmas.List.{append_assoc, map-append, map_more, flat_map_more, take_all, take-append-drop}
+use Rattle.std.proofs.lemmas.List.{append_assoc, map-append, map_more, flat_map_more, take-append-drop}
 use Rattle.grammar.specs.declared.rule.Rule.{Rule as Numbered}
 use Rattle.grammar.specs.declared.refusals.FileRefusal.{FileRefusal}
 use Rattle.grammar.specs.Model.{rule}
@@ -9,7 +9,7 @@ use Rattle.syntax.specs.Syntax.{Line, rule_line, letter, sign, render, mark_line
 use Rattle.syntax.specs.declared.text.TextWriter.{TextWriter}
 use Rattle.syntax.specs.Writing.{Writes}
 use Rattle.syntax.proofs.Lines.{mark_bytes}
-use Rattle.syntax.proofs.Writes.{overlaid_none, writes_same, writes_on, writes_exit}
+use Rattle.syntax.proofs.Writes.{overlaid_none, writes_on, writes_exit}
 use Rattle.file_model.specs.Files.{rule_form, ended}
 
 -- no bytes

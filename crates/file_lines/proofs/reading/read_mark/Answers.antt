@@ -1,4 +1,4 @@
-use Rattle.std.proofs.Common.{◌≡◌, ℕ, List, [], ◌∷◌, ◌++◌, Some, None, Option, Bor, sym, ap, ◌∙◌, rules}
+use Rattle.std.proofs.Common.{◌≡◌, ℕ, List, ◌∷◌, ◌++◌, Some, None, Option, Bor, sym, ap, ◌∙◌, rules}
 use Rattle.syntax.proofs.Free.{mark_no_feed}
 use Rattle.syntax.proofs.Lines.{mark_bytes}
 use Rattle.file_lines.specs.Reading.{ReadsMark}
