@@ -1,5 +1,5 @@
 -- The words that are put to conditions, and what the looks answer.
-use Rattle.std.proofs.Common.{◌≡◌, ℕ, ◌^◌, ◌<◌, Bool, true, false, List, [], ◌∷◌, Ok, Result, refl, arith}
+use Rattle.std.proofs.Common.{◌≡◌, ℕ, ◌^◌, ◌<◌, true, false, List, [], ◌∷◌, Ok, Result, refl, arith}
 use Rattle.grammar.specs.declared.refusals.ReadingRefusal.{ReadingRefusal}
 use Rattle.bitset.specs.Bits.{bit}
 use Rattle.theory.specs.Claims.{Sentence, Viable}
