@@ -50,6 +50,7 @@ fn print_lines(
     spellings: &Spellings,
     input: &[u8],
 ) -> io::Result<()> {
+    // (counted here, since the number of lines is printed behind them)
     let mut count = 0;
     for line in input.split_inclusive(|byte| *byte == b'\n') {
         count += 1;

@@ -87,6 +87,7 @@ impl SpelledDraft {
             let Some((form, behind)) = cut_at(rest, b'\n') else {
                 return Err(Fault::in_file(FileRefusal::Form, line));
             };
+            // (by `map_err(..)?` it stays open what the line left)
             if let Err(refusal) = self.read_line(form) {
                 return Err(Fault { refusal, line });
             }

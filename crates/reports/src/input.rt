@@ -36,7 +36,7 @@ pub fn print_book(rt: &HostRuntime, text: &[u8]) -> io::Result<Option<SpelledDra
     }
 }
 
-// All that standard input has.
+// All that standard input has. (No clause can say what that is.)
 pub fn read_input(rt: &HostRuntime) -> io::Result<Vec<u8>> {
     let mut input = Vec::new(rt.alloc());
     rt.stdin().read_to_end(&mut input)?;

@@ -2,7 +2,7 @@ ghost use Rattle.walk.specs.Lines.{HasLines};
 
 use syntax::reading::cut_at;
 
-// How many lines the text has.
+// How many lines the text has. (Of `split_inclusive(..).count()` it stays open which parts were counted.)
 pub fn count_lines(text: &[u8]) -> usize
     ensures { HasLines text.now result }
 {
