@@ -2,8 +2,7 @@
 use Rattle.std.proofs.Common.{◌≡◌, ℕ, ◌+◌, ◌<◌, ◌≤◌, List, [], ◌∷◌, ◌++◌, length, get_or, decimal, Result, sym, ap, ◌∙◌, arith}
 use Rattle.std.proofs.lemmas.Str.Parse.{digit_at}
 use Rattle.grammar.specs.declared.refusals.Refusal.{Refusal}
-use Rattle.grammar.specs.declared.rule.Relation.{Relation}
-use Rattle.syntax.specs.Syntax.{Spelling, Symbol, ValidSpelling, ValidSymbols, Line, word_line, production_line, rule_line, HasForm, spelling_text, spaced, right_parts}
+use Rattle.syntax.specs.Syntax.{Spelling, ValidSpelling, Line, word_line, production_line, rule_line, HasForm, spelling_text, spaced, right_parts}
 use Rattle.syntax.proofs.Lines.{render_word, render_production, render_rule}
 use Rattle.syntax.proofs.Numbers.{decimal_shape}
 use Rattle.file_model.specs.Spelled.{Spelled}

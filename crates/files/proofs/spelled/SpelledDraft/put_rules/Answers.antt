@@ -1,5 +1,5 @@
-use Rattle.std.proofs.Common.{◌≡◌, ◌<◌, length, Ok, ap, ◌∙◌, arith}
-use Rattle.grammar.specs.Grammar.{no_rule, rule_at}
+use Rattle.std.proofs.Common.{Ok, arith}
+use Rattle.grammar.specs.Grammar.{no_rule}
 use Rattle.grammar.specs.Model.{rule}
 use Rattle.file_model.specs.Files.{rule_form}
 use Rattle.files.specs.Model.{model}
