@@ -4,7 +4,6 @@ ghost use Rattle.reports.specs.Reports.{Opened};
 use crate::summary::read_book;
 use files::spelled::SpelledDraft;
 use std::io;
-use std::io::Read;
 
 // The name of the grammar file.
 pub const BOOK: &str = "book.rbk";
@@ -34,11 +33,4 @@ pub fn print_book(rt: &HostRuntime, text: &[u8]) -> io::Result<Option<SpelledDra
             Ok(None)
         }
     }
-}
-
-// All that standard input has. (No clause can say what that is.)
-pub fn read_input(rt: &HostRuntime) -> io::Result<Vec<u8>> {
-    let mut input = Vec::new(rt.alloc());
-    rt.stdin().read_to_end(&mut input)?;
-    Ok(input)
 }

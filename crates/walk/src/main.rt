@@ -5,8 +5,16 @@
 mod lines;
 
 use lines::count_lines;
-use reports::input::{BOOK, print_book, read_input, reported};
+use reports::input::{BOOK, print_book, reported};
+use std::io::Read;
 use std::{fs, io};
+
+// All that standard input has. (No clause can say what that is.)
+fn read_input(rt: &HostRuntime) -> io::Result<Vec<u8>> {
+    let mut input = Vec::new(rt.alloc());
+    rt.stdin().read_to_end(&mut input)?;
+    Ok(input)
+}
 
 fn main(rt: HostRuntime) -> io::Result<()> {
     let text = reported(&rt, BOOK, fs::read(&rt, BOOK))?;
