@@ -1,10 +1,12 @@
 -- When no cause below a number applies. Assumes nothing.
-use Rattle.std.proofs.Common.{◌≡◌, ℕ, ◌<◌, ◌≤◌, length, Ok, Err, Result, sym, refl, subst, arith}
+use Rattle.std.proofs.Common.{◌≡◌, ℕ, ◌<◌, ◌≤◌, length, Ok, Err, Result, sym, refl, subst, ⊎_elim, arith}
 use Rattle.grammar.specs.declared.refusals.DraftRefusal.{DraftRefusal}
 use Rattle.grammar.specs.declared.refusals.DraftRefusal.TheVariants.{NoProduction}
 use Rattle.grammar.specs.declared.rule.Relation.{Relation}
-use Rattle.grammar.specs.Grammar.{Production, Grammar, with_start}
+use Rattle.grammar.specs.Grammar.{Production, Grammar, Known, with_start}
+use Rattle.grammar.specs.Sound.{Named}
 use Rattle.draft.specs.Calls.{SetsStart, StartCause, start_out_of_range, OutOfRange, TooLong, NoRoom, Repeats, Loops, ProductionCause, symbol_out_of_range, right_too_long, productions_full, sides_repeated, leads_to_itself, RepeatsRule, NamesNone, AboveItself, numbered, AddsRule, RuleCause, rule_repeated, names_no_production, rules_full, above_itself}
+use Rattle.draft.proofs.Rules.{says_cases}
 
 pub start_none : (symbol m : ℕ) → (1 < m → ¬ (15 < symbol)) → (n : ℕ) → n < m → ¬ StartCause symbol n
 start_none symbol m one n l (start_out_of_range h) = one l h
@@ -67,6 +69,14 @@ module _ (g : Grammar) (upper : ℕ) (relation : Relation) (lower : ℕ) where
   rule_none m e n l (rules_full h) = e.room l h
   rule_none m e n l (above_itself h) = e.above l h
 
+  -- a rule that is there names productions
+  repeats_named : Named g → RepeatsRule g upper relation lower → ¬ NamesNone g upper lower
+  repeats_named named s none =
+      let both : Known g s.0 × Known g s.1 =
+      ⊎_elim (λ m. named _ m) (λ m. let k = named _ m.1 in (k.1, k.0)) (says_cases g.rules s.0 s.1 relation s.4) in
+      ⊎_elim (λ no. no (omega (arith, s.2), omega (arith, s.2, both.0))) (λ no. no (omega (arith, s.3), omega (arith, s.3, both.1))) none
+
   -- the answer where a number is no production's
-  pub names_refused : (¬ RepeatsRule g upper relation lower) → NamesNone g upper lower → (r : Result ℕ DraftRefusal) → r ≡ Err NoProduction → AddsRule g upper relation lower r g
-  names_refused n a r e = subst (λ x. AddsRule g upper relation lower x g) (sym e) (names_no_production a, rule_none 6 (below_names n), refl)
+  pub names_refused : Named g → NamesNone g upper lower → (r : Result ℕ DraftRefusal) → r ≡ Err NoProduction → AddsRule g upper relation lower r g
+  names_refused named a r e =
+      subst (λ x. AddsRule g upper relation lower x g) (sym e) (names_no_production a, rule_none 6 (below_names (λ s. repeats_named named s a)), refl)

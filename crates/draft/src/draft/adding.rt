@@ -38,16 +38,17 @@ fn same_sides(p: &Production, left: u8, right: &[u8]) -> bool
     p.left() == left && p.right() == right
 }
 
-// Whether the rule says this of the productions of these numbers; an associativity counts both ways round.
-fn same_rule(rule: &Rule, upper: u16, relation: Relation, lower: u16) -> bool
-    ensures yes { result ≡ true → SameRule rule.now upper relation lower }
-    ensures no { result ≡ false → ¬ SameRule rule.now upper relation lower }
+// Whether the rule says what the other says; an associativity counts both ways round.
+fn same_rule(rule: &Rule, other: &Rule) -> bool
+    ensures yes { result ≡ true → SameRule rule.now other.now.upper other.now.relation other.now.lower }
+    ensures no { result ≡ false → ¬ SameRule rule.now other.now.upper other.now.relation other.now.lower }
 {
-    let above = u16::from(rule.upper);
-    let below = u16::from(rule.lower);
-    let as_it_stands = above == upper && below == lower;
-    let mirrored = relation != Relation::Priority && above == lower && below == upper;
-    rule.relation == relation && (as_it_stands || mirrored)
+    let mirrored = Rule {
+        upper: rule.lower,
+        relation: rule.relation,
+        lower: rule.upper,
+    };
+    rule == other || rule.relation != Relation::Priority && mirrored == *other
 }
 
 impl Draft {
@@ -91,14 +92,12 @@ impl Draft {
             .any(|production| same_sides(production, left, right))
     }
 
-    // Whether the rules say this already.
-    fn has_rule(&self, upper: u16, relation: Relation, lower: u16) -> bool
-        ensures yes { result ≡ true → RepeatsRule (model self.now) upper relation lower }
-        ensures no { result ≡ false → ¬ RepeatsRule (model self.now) upper relation lower }
+    // Whether the rules say what this one says.
+    fn has_rule(&self, other: &Rule) -> bool
+        ensures yes { result ≡ true → RepeatsRule (model self.now) other.now.upper other.now.relation other.now.lower }
+        ensures no { result ≡ false → ¬ RepeatsRule (model self.now) other.now.upper other.now.relation other.now.lower }
     {
-        self.rules()
-            .iter()
-            .any(|rule| same_rule(rule, upper, relation, lower))
+        self.rules().iter().any(|rule| same_rule(rule, other))
     }
 
     // Whether there is room for the production and its places.
@@ -171,7 +170,8 @@ impl Draft {
         }
     }
 
-    // Adds a rule between the productions of two numbers, and answers how many rules there are then.
+    // Adds a rule between the productions of two numbers, and answers how many rules there are then. (A rule that is there names
+    // productions, so that looking for them first refuses none that repeats one.)
     pub fn add_rule(
         &mut self,
         upper: u16,
@@ -180,14 +180,14 @@ impl Draft {
     ) -> Result<u8, DraftRefusal>
         ensures { AddsRule (model self.old) upper relation lower result (model self.new) }
     {
-        if self.has_rule(upper, relation, lower) {
-            return Err(DraftRefusal::Repeated);
-        }
         let rule = Rule {
             upper: self.named(upper)?,
             relation,
             lower: self.named(lower)?,
         };
+        if self.has_rule(&rule) {
+            return Err(DraftRefusal::Repeated);
+        }
         if self.ruled >= 64 {
             return Err(DraftRefusal::RulesFull);
         }

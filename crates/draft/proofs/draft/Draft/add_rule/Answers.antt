@@ -1,4 +1,4 @@
-use Rattle.std.proofs.Common.{length, Err, refl, ap, ◌∙◌, subst, inl, inr, ⊎_elim, arith}
+use Rattle.std.proofs.Common.{length, Err, sym, refl, ap, ◌∙◌, subst, inl, inr, ⊎_elim, arith}
 use Rattle.std.proofs.lemmas.Result.{err_from_is_err_and}
 use Rattle.grammar.specs.Model.{rule}
 use Rattle.draft.specs.Calls.{Names, rule_repeated, rules_full}
@@ -10,19 +10,24 @@ use Rattle.draft.proofs.draft.Draft.add_rule.Goals as goal
 pub returns-then-has_rule : goal.returns-then-has_rule
 returns-then-has_rule c =
     let g = model c.args.self.now in
-    (rule_repeated (c.if-has_rule.ensures.yes refl), rule_none g c.args.upper c.args.relation c.args.lower 4 (below_repeat g c.args.upper c.args.relation c.args.lower), refl)
+    let up = c.in_ok-named.ensures in
+    let low = c.in_ok-named-2.ensures in (
+      rule_repeated (rw (sym up.0, sym low.0) (c.if-has_rule.ensures.yes refl)),
+      rule_none g c.args.upper c.args.relation c.args.lower 4 (below_repeat g c.args.upper c.args.relation c.args.lower),
+      refl,
+    )
 
 pub returns-in_err-named : goal.returns-in_err-named
 returns-in_err-named c =
     let r = err_from_is_err_and c.from_residual.result c.from_residual.ensures.1 in
     let none = c.in_err-named.ensures in
-    names_refused (model c.args.self.now) c.args.upper c.args.relation c.args.lower (c.if-has_rule.ensures.no refl) (inl none.1) _ (r.1 ∙ ap Err (r.2 ∙ none.0))
+    names_refused (model c.args.self.now) c.args.upper c.args.relation c.args.lower c.args.self.now.named (inl none.1) _ (r.1 ∙ ap Err (r.2 ∙ none.0))
 
 pub returns-in_err-named-2 : goal.returns-in_err-named-2
 returns-in_err-named-2 c =
     let r = err_from_is_err_and c.from_residual-in_err-named-2.result c.from_residual-in_err-named-2.ensures.1 in
     let none = c.in_err-named-2.ensures in
-    names_refused (model c.args.self.now) c.args.upper c.args.relation c.args.lower (c.if-has_rule.ensures.no refl) (inr none.1) _ (r.1 ∙ ap Err (r.2 ∙ none.0))
+    names_refused (model c.args.self.now) c.args.upper c.args.relation c.args.lower c.args.self.now.named (inr none.1) _ (r.1 ∙ ap Err (r.2 ∙ none.0))
 
 pub returns-then-self-ge64 : goal.returns-then-self-ge64
 returns-then-self-ge64 c =
@@ -32,7 +37,7 @@ returns-then-self-ge64 c =
     let low = c.in_ok-named-2.ensures in (
       rules_full (omega (arith, counted rule d.rules d.ruled (omega arith))),
       rule_none g c.args.upper c.args.relation c.args.lower 7
-          (below_full g c.args.upper c.args.relation c.args.lower (c.if-has_rule.ensures.no refl)
+          (below_full g c.args.upper c.args.relation c.args.lower (rw (sym up.0, sym low.0) (c.if-has_rule.ensures.no refl))
           (λ o. ⊎_elim (λ no. no (subst (Names (length g.productions)) up.0 up.1)) (λ no. no (subst (Names (length g.productions)) low.0 low.1)) o)),
       refl,
     )
@@ -46,5 +51,5 @@ accept_rule-requires c =
       upper = up.1;
       lower = low.1;
       room = omega (arith, counted rule d.rules d.ruled (omega arith));
-      fresh = rw (up.0, low.0) (c.if-has_rule.ensures.no refl);
+      fresh = c.if-has_rule.ensures.no refl;
     }

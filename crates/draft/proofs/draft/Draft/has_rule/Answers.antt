@@ -10,9 +10,9 @@ use Rattle.draft.proofs.draft.Draft.has_rule.Goals as goal
 pub returns : goal.returns
 returns c =
     let xs = c.rules.result.now in
-    let upper = c.args.upper in
-    let relation = c.args.relation in
-    let lower = c.args.lower in
+    let upper = c.args.other.now.upper in
+    let relation = c.args.other.now.relation in
+    let lower = c.args.other.now.lower in
     let found =
     cases_from_any _ _ _ (λ x. SameRule x upper relation lower) (λ x. ¬ SameRule x upper relation lower) c.any.ensures.ran (YieldsList-from_slice xs cc) (λ x q k. search (rules, tests)) (λ x q k. search (rules, tests)) in
     record {
