@@ -1,4 +1,7 @@
 //! Clients of a reading: each takes any sealed grammar and a lent chart, and its contract says what it answers for a small grammar.
+//!
+//! The grammar and the chart are the caller's and lent to each client alone, and that a short chart is refused is each one's own promise: no
+//! struct of both would say it for them.
 
 #![tactic(auto)]
 

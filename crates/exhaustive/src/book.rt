@@ -3,15 +3,18 @@ ghost use Rattle.std.specs.Prelude.{◌<◌, OnSome};
 use crate::conflicts::Conflicts;
 use crate::position::Position;
 use draft::draft::Draft;
+use files::spelled::SpelledDraft;
 use grammar::production::Production;
+use spellings::spellings::Spellings;
 use std::alloc::{AllocError, Global};
 use std::collections::HashMap;
 
-// A draft with, for each position, the productions that may stand there, and for each production that has a
-// conflict-free tree the fewest words of one. Productions go by their numbers.
+// A draft with its spellings, for each position the productions that may stand there, and for each production that has
+// a conflict-free tree the fewest words of one. Productions go by their numbers.
 #[derive(Drop)]
 pub struct Book {
     draft: Draft,
+    spellings: Spellings,
     children: HashMap<Position, Vec<u8>>,
     fewest: HashMap<u8, usize>,
 }
@@ -34,12 +37,14 @@ fn children_at(
 }
 
 impl Book {
-    // The book of a draft. A tree with the fewest words has no production twice on a way down, so that it has at most 32
+    // The book of a spelled draft. A tree with the fewest words has no production twice on a way down, so that it has at most 32
     // levels, and each round takes in the trees with one level more.
-    pub(crate) fn new(heap: Global, draft: Draft) -> Result<Book, AllocError> {
+    pub(crate) fn new(heap: Global, spelled: SpelledDraft) -> Result<Book, AllocError> {
+        let SpelledDraft { draft, spellings } = spelled;
         let conflicts = Conflicts::new(heap, &draft)?;
         let mut book = Book {
             draft,
+            spellings,
             children: HashMap::new(heap),
             fewest: HashMap::new(heap),
         };
@@ -86,6 +91,11 @@ impl Book {
             }
         }
         Ok(())
+    }
+
+    // What its kinds are spelled like.
+    pub(crate) fn spellings(&self) -> &Spellings {
+        &self.spellings
     }
 
     // How many places the productions have: one more than symbols on the right, for each.

@@ -15,7 +15,7 @@ pub struct Conflicts {
     last: Pairs,
 }
 
-// Adds that p has priority over q, and over all that q is known to have priority over.
+// Adds that p has priority over q, and over all that q is known to have priority over. (by number: the set changes)
 fn put_above(above: &mut Pairs, p: u8, q: u8) -> Result<(), AllocError> {
     above.insert((p, q))?;
     for r in 1..=32 {

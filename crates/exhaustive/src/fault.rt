@@ -26,7 +26,8 @@ pub enum LineError {
 
 impl LineError {
     // The line is refused at the place.
-    pub(crate) fn refused(refusal: Refusal, place: usize) -> LineError {
+    pub(crate) fn refused<R: Into<Refusal>>(refusal: R, place: usize) -> LineError {
+        let refusal = refusal.into();
         LineError::Refused(Fault { refusal, place })
     }
 }

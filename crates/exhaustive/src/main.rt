@@ -1,5 +1,6 @@
 //! Reads the grammar file `book.rbk` in the current folder and lines from standard input, and prints what each line is,
-//! found by trying all trees. How it cuts words, counts trees and prints is apart from the reader's crates: this program is compared with it.
+//! found by trying all trees. How it reads its input, cuts words, counts trees, tells faults and prints is apart from the
+//! reader's crates: this program is compared with it.
 
 #![tactic(auto)]
 
@@ -16,7 +17,6 @@ mod words;
 use book::Book;
 use fault::LineError;
 use files::spelled::SpelledDraft;
-use spellings::spellings::Spellings;
 use std::io::Read;
 use std::{fs, io};
 use verdict::verdict_of;
@@ -29,14 +29,8 @@ fn read_input(rt: &HostRuntime) -> io::Result<Vec<u8>> {
 }
 
 // Prints a line's number and what the line is.
-fn print_verdict(
-    rt: &HostRuntime,
-    book: &Book,
-    spellings: &Spellings,
-    number: usize,
-    line: &[u8],
-) -> io::Result<()> {
-    match verdict_of(rt.alloc(), book, spellings, line) {
+fn print_verdict(rt: &HostRuntime, book: &Book, number: usize, line: &[u8]) -> io::Result<()> {
+    match verdict_of(rt.alloc(), book, line) {
         Ok(trees) => println!(rt; "{number} {trees}"),
         Err(LineError::Refused(fault)) => println!(rt; "{number} {fault}"),
         Err(LineError::Memory(error)) => Err(io::Error::from(error)),
@@ -44,18 +38,13 @@ fn print_verdict(
 }
 
 // Prints what each line of the input is, and how many lines there are. The last one may lack its line feed.
-fn print_lines(
-    rt: &HostRuntime,
-    book: &Book,
-    spellings: &Spellings,
-    input: &[u8],
-) -> io::Result<()> {
+fn print_lines(rt: &HostRuntime, book: &Book, input: &[u8]) -> io::Result<()> {
     // (counted here, since the number of lines is printed behind them)
     let mut count = 0;
     for line in input.split_inclusive(|byte| *byte == b'\n') {
         count += 1;
         let line = line.strip_suffix(b"\n").unwrap_or(line);
-        print_verdict(rt, book, spellings, count, line)?;
+        print_verdict(rt, book, count, line)?;
     }
     println!(rt; "lines {count}")
 }
@@ -69,13 +58,12 @@ fn run(rt: &HostRuntime) -> io::Result<()> {
         let line = fault.line;
         return println!(rt; "book refused {number} line {line}");
     }
-    let SpelledDraft { draft, spellings } = spelled;
-    let productions = draft.production_count();
-    let rules = draft.rule_count();
+    let productions = spelled.draft.production_count();
+    let rules = spelled.draft.rule_count();
     println!(rt; "RBK 1 productions {productions} rules {rules}")?;
-    let book = Book::new(rt.alloc(), draft)?;
+    let book = Book::new(rt.alloc(), spelled)?;
     let input = read_input(rt)?;
-    print_lines(rt, &book, &spellings, input.as_slice())
+    print_lines(rt, &book, input.as_slice())
 }
 
 fn main(rt: HostRuntime) -> io::Result<()> {

@@ -25,7 +25,8 @@ impl<'f, 'b> Trial<'f, 'b> {
         Ok(is_new && self.begins_from(Position::first(production), span, steps)?)
     }
 
-    // Whether the words of the span begin the words of a tree that may stand at the position.
+    // Whether the words of the span begin the words of a tree that may stand at the position. (a loop, as below: each
+    // step may lack memory)
     #[cycle(prefixes)]
     fn begins_at(&mut self, at: Position, span: Span, steps: u32) -> Result<bool, AllocError> {
         let book = self.forest.book;

@@ -4,8 +4,7 @@ use crate::forest::Forest;
 use crate::prefixes::some_begins;
 use crate::trees::Trees;
 use crate::words::{Words, kind_of};
-use grammar::refusals::{LineRefusal, ReadingRefusal, Refusal};
-use spellings::spellings::Spellings;
+use grammar::refusals::{LineRefusal, ReadingRefusal};
 use std::alloc::Global;
 
 // The most bytes of a line, the most words of one, and the most entries of a table of scores.
@@ -18,49 +17,40 @@ const TABLE_ENTRIES: usize = 8000;
 // Puts a word of a kind, which stands at the place.
 fn put_word(heap: Global, forest: &mut Forest, kind: u8, place: usize) -> Result<(), LineError> {
     if forest.span().to >= LINE_WORDS {
-        let refusal = Refusal::Reading(ReadingRefusal::LineFull);
-        return Err(LineError::refused(refusal, place));
+        return Err(LineError::refused(ReadingRefusal::LineFull, place));
     }
     forest.push(kind)?;
     if some_begins(heap, forest)? {
         return Ok(());
     }
-    let refusal = Refusal::Reading(ReadingRefusal::NothingBegins);
-    Err(LineError::refused(refusal, place))
+    Err(LineError::refused(ReadingRefusal::NothingBegins, place))
 }
 
 // The trees of the words, which are those of a line of this length.
 fn trees_of_words(forest: &mut Forest, length: usize) -> Result<Trees, LineError> {
     let trees = forest.trees()?;
     if trees.is_none() {
-        let refusal = Refusal::Reading(ReadingRefusal::NoSentence);
-        return Err(LineError::refused(refusal, length));
+        return Err(LineError::refused(ReadingRefusal::NoSentence, length));
     }
     let side = forest.span().to.saturating_add(1);
     let entries = side
         .saturating_mul(side)
         .saturating_mul(forest.book.place_count());
     if entries > TABLE_ENTRIES {
-        let refusal = Refusal::Reading(ReadingRefusal::ShortTable);
-        return Err(LineError::refused(refusal, 0));
+        return Err(LineError::refused(ReadingRefusal::ShortTable, 0));
     }
     Ok(trees)
 }
 
 // The trees of a line.
-pub(crate) fn verdict_of(
-    heap: Global,
-    book: &Book,
-    spellings: &Spellings,
-    line: &[u8],
-) -> Result<Trees, LineError> {
-    let unknown = Refusal::Line(LineRefusal::UnknownWord);
+pub(crate) fn verdict_of(heap: Global, book: &Book, line: &[u8]) -> Result<Trees, LineError> {
     if line.len() > LINE_BYTES {
-        return Err(LineError::refused(unknown, LINE_BYTES));
+        return Err(LineError::refused(LineRefusal::UnknownWord, LINE_BYTES));
     }
     let mut forest = Forest::new(heap, book);
     for (word, place) in Words::of(line) {
-        let kind = kind_of(spellings, word).ok_or(LineError::refused(unknown, place))?;
+        let unknown = LineError::refused(LineRefusal::UnknownWord, place);
+        let kind = kind_of(book.spellings(), word).ok_or(unknown)?;
         put_word(heap, &mut forest, kind, place)?;
     }
     trees_of_words(&mut forest, line.len())

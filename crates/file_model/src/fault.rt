@@ -5,7 +5,8 @@ ghost use Rattle.file_model.specs.Faults.{refusal_report};
 use grammar::refusals::{FileRefusal, Refusal};
 use std::fmt;
 
-// Why a text is no grammar file: the refusal, with its layer, and the line, counted from 1; 0 speaks of the whole text.
+// Why a text is no grammar file: the refusal, with its layer, and the line, counted from 1; 0 speaks of the whole text (no
+// option: the C call packs that 0 and the programs print it).
 #[derive(Clone, Copy, PartialEq, Eq, Debug)]
 pub struct Fault {
     pub refusal: Refusal,

@@ -105,6 +105,7 @@ impl SpelledDraft {
         if text.len() > 16384 {
             return Err(Fault::in_file(FileRefusal::Form, 0));
         }
+        // (`let .. else`, as in `read_lines`)
         let Some(rest) = read_mark(text) else {
             return Err(Fault::in_file(FileRefusal::Mark, 1));
         };

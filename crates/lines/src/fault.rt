@@ -1,7 +1,8 @@
 use grammar::refusals::{LineRefusal, ReadingRefusal, Refusal};
 use std::fmt;
 
-// Why a line is refused: the refusal, with its layer, and the place in bytes, counted from 0.
+// Why a line is refused: the refusal, with its layer, and the place in bytes, counted from 0. (It is 0 also where the refusal speaks
+// of no place, and no option: the C call packs that 0 and the programs print it.)
 #[derive(Clone, Copy, PartialEq, Eq, Debug)]
 pub struct LineFault {
     pub refusal: Refusal,
@@ -19,7 +20,7 @@ impl LineFault {
         ensures { result ≡ fault (Line UnknownWord) place }
     {
         LineFault {
-            refusal: Refusal::Line(LineRefusal::UnknownWord),
+            refusal: LineRefusal::UnknownWord.into(),
             place,
         }
     }
@@ -29,7 +30,7 @@ impl LineFault {
         ensures { result ≡ fault (Reading refusal) place }
     {
         LineFault {
-            refusal: Refusal::Reading(refusal),
+            refusal: refusal.into(),
             place,
         }
     }

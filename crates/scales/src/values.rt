@@ -13,8 +13,8 @@ pub struct Count {
     ghost fits: { value ≤ 4294967295 },
 }
 
-// The smallest price of a tree; 4,294,967,295 stands for no tree (no option: no tree is the zero of the scale, and a saturating sum
-// keeps it).
+// The smallest price of a tree; 4,294,967,295 stands for no tree (no option: it is the none of the scale, and an addition that stops
+// there keeps it).
 #[derive(Clone, Copy, PartialEq, Eq, Debug)]
 pub struct Price {
     pub value: u32,

@@ -25,8 +25,8 @@ impl From<RightFault> for Refusal {
         ensures { result ≡ refusal fault }
     {
         match fault {
-            RightFault::Undeclared => Refusal::File(FileRefusal::Undeclared),
-            RightFault::Long => Refusal::Draft(DraftRefusal::LongRight),
+            RightFault::Undeclared => FileRefusal::Undeclared.into(),
+            RightFault::Long => DraftRefusal::LongRight.into(),
         }
     }
 }

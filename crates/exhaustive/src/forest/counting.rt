@@ -22,7 +22,7 @@ impl<'b> Forest<'b> {
         Ok(trees)
     }
 
-    // The trees over the span that may stand at the position.
+    // The trees over the span that may stand at the position. (a loop, as below: each step may lack memory)
     #[cycle(trees)]
     fn trees_at(&mut self, at: Position, span: Span, steps: u32) -> Result<Trees, AllocError> {
         let book = self.book;

@@ -24,7 +24,8 @@ impl<'a> Slot<'a> {
         self.node.right()[self.place]
     }
 
-    // Whether by the tables the production q may stand at the place.
+    // Whether by the tables the production q may stand at the place. (That q is a production's number stands here and in the contracts
+    // below: a number that held its sources would have to be shown to be one of these sources'.)
     fn fits(&self, q: usize) -> bool
         requires { q < (tables_in self.now.node.sources).count }
         ensures yes { result ≡ true → Fits self.now.node.sources self.now.node.production self.now.place q }

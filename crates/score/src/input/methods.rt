@@ -34,7 +34,8 @@ impl<'a> Input<'a> {
         is_marked(&self.tables.waits, q, self.place(entry))
     }
 
-    // The level of the entry: the rank of its left side if every symbol behind the dot may be empty, else 17.
+    // The level of the entry: the rank of its left side if every symbol behind the dot may be empty, else 17 (a
+    // level like the others, the one filled last; it stands for no missing value).
     pub(crate) fn level(&self, entry: Entry) -> u8
         requires inside { HasEntry self.now entry }
         ensures { result ≡ level_in self.now entry.production entry.dot }

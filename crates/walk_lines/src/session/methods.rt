@@ -58,6 +58,7 @@ impl Session {
     pub(crate) fn take<W: io::Write>(&mut self, part: &[u8], out: &mut W) -> io::Result<()>
         ensures { OnOk result (Took self.old part.now self.new) }
     {
+        // (by what is left of the part: the buffer takes the rest only when the line before it has ended)
         let mut rest = part;
         while let Some(behind) = self.buffer.take(rest) {
             rest = behind;
