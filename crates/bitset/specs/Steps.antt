@@ -9,6 +9,10 @@ Adds before after new = (x y : ℕ) → after x y ↔ (before x y ⊎ new x y)
 abbrev pub Gathers : (ℕ → ℕ → Type 0) → (ℕ → ℕ → Type 0) → ℕ → (ℕ → ℕ → ℕ → Type 0) → Type 0
 Gathers before after n new = Adds before after (λ x y. (k : ℕ) × (k < n) × new k x y)
 
+-- the step of a number below the count
+abbrev pub AnyBelow : ℕ → (ℕ → ℕ → ℕ → Type 0) → ℕ → ℕ → Type 0
+AnyBelow count step set next = (k : ℕ) × (k < count) × step set k next
+
 -- what steps of R come to, beginning with no number
 pub data Reached (R : ℕ → ℕ → Type 0) : ℕ → Type 0 where
   reached_none : Reached R 0

@@ -1,19 +1,22 @@
 ghost use Rattle.std.specs.Prelude.{◌≡◌, ℕ, ◌^◌, ◌<◌, ◌≤◌};
-ghost use Rattle.bitset.specs.Steps.{Reached};
+ghost use Rattle.bitset.specs.Steps.{Reached, AnyBelow};
 
-// The set that steps come to, beginning with no number, when a step adds nothing more. A step only adds.
-pub fn grown<F: Fn(u32) -> u32>(step: F) -> u32
-    requires callable { F.IsAlwaysCallable step }
-    requires grows { (set next : ℕ) → set < 2 ^ 32 → F.post step set next → set ≤ next }
-    ensures reached { Reached (F.post step) result }
-    ensures fixed { F.post step result result }
+// The set that the steps of the numbers below the count come to, beginning with no number, when none of them adds anything.
+// A step only adds.
+pub fn grown<F: Fn(u32, usize) -> u32>(count: usize, step: F) -> u32
+    requires callable { (set k : ℕ) → set < 2 ^ 32 → k < count → F.pre step set k }
+    requires grows { (set k next : ℕ) → set < 2 ^ 32 → k < count → F.post step set k next → set ≤ next }
+    ensures reached { Reached (AnyBelow count (F.post step)) result }
+    ensures fixed { (k : ℕ) → k < count → F.post step result k result }
 {
     let mut set = 0;
-    loop {
-        let next = step(set);
-        if next == set {
+    'passes: loop {
+        let before = set;
+        for k in 0..count {
+            set = step(set, k);
+        }
+        if set == before {
             return set;
         }
-        set = next;
     }
 }

@@ -1,41 +1,36 @@
 -- The set of the symbols that derive the empty list, as it grows.
-use Rattle.std.proofs.Common.{◌≡◌, ℕ, ◌+◌, ◌<◌, ◌≤◌, ◌⊎◌, ◌↔◌, List, length, sym, refl, subst, inr, ⊎_elim, arith, below_more}
+use Rattle.std.proofs.Common.{◌≡◌, ℕ, ◌<◌, ◌⊎◌, ◌↔◌, List, length, get_or, sym, refl, subst, inr, ⊎_elim}
+use Rattle.grammar.specs.declared.production.Production.{Production as Stored}
 use Rattle.grammar.specs.Grammar.{Production, production_at, left_at, right_at}
 use Rattle.grammar.specs.Derivations.{Nullable, nullable}
+use Rattle.grammar.specs.Model.{production, productions}
 use Rattle.bitset.specs.Bits.{Has}
-use Rattle.derivations.specs.Steps.{EveryIn, SoundSet, ClosedAt}
+use Rattle.derivations.specs.Steps.{EveryIn}
+use Rattle.derivations.proofs.Elements.{is_at}
 
--- a closed set has every symbol that derives the empty list
-nullable_in : (ps : List Production) (set : ℕ) → ((k : ℕ) → k < length ps → ClosedAt ps set k) → {s : ℕ} → Nullable ps s → Has set s
-nullable_in ps set closed (nullable {p = p} known is rights) =
-    subst (Has set) is (closed p known (λ k x at. nullable_in ps set closed (rights k x at)))
+-- every symbol of the set derives the empty list
+abbrev pub SoundSet : List Production → ℕ → Type 0
+SoundSet ps set = (s : ℕ) → Has set s → Nullable ps s
 
 -- what one production makes of the set a
-pub record Grown (p : Production) (a b : ℕ) : Type 0 where
-  pub holds : (s : ℕ) → Has b s ↔ (Has a s ⊎ ((s ≡ p.left) × EveryIn a p.right))
-  pub grows : a ≤ b
+abbrev pub Grown : Production → ℕ → ℕ → Type 0
+Grown p a b = (s : ℕ) → Has b s ↔ (Has a s ⊎ ((s ≡ p.left) × EveryIn a p.right))
 
--- what the first i productions make of the set
-pub record Passed (ps : List Production) (set grown i : ℕ) : Type 0 where
-  pub grows : set ≤ grown
-  pub sound : SoundSet ps set → SoundSet ps grown
-  pub closed : grown ≡ set → (k : ℕ) → k < i → ClosedAt ps set k
+-- the same of the stored production that was read at i
+pub grown_at : (ps : List Stored) (i a b : ℕ) → i < length ps → (x : Stored) → x ≡ get_or ps i x → Grown (production x) a b → Grown (production_at (productions ps) i) a b
+grown_at ps i a b l x is step = subst (λ p. Grown p a b) (is_at ps i x l is) step
 
-pub passed_more : (ps : List Production) (set a b i : ℕ) → i < length ps → Passed ps set a i → Grown (production_at ps i) a b → Passed ps set b (i + 1)
-passed_more ps set a b i known old step =
-    record {
-      grows = omega (arith, old.grows, step.grows);
-      sound = λ sound s h.
-          let was = old.sound sound in
-          ⊎_elim (λ (y : Has a s). was s y)
-          (λ (y : (s ≡ left_at ps i) × EveryIn a (right_at ps i)). nullable known (sym y.0) (λ k x at. was x (y.1 k x at)))
-          ((step.holds s).0 h);
-      closed = λ same.
-          let still : a ≡ set = omega (arith, old.grows, step.grows) in
-          below_more (ClosedAt ps set) i (old.closed still)
-          (λ all. subst (λ n. Has n (left_at ps i)) same ((step.holds (left_at ps i)).1 (inr (refl, λ k x at. subst (λ n. Has n x) (sym still) (all k x at)))));
-    }
+pub still_sound : (ps : List Production) (a b i : ℕ) → i < length ps → Grown (production_at ps i) a b → SoundSet ps a → SoundSet ps b
+still_sound ps a b i known step sound s h =
+    ⊎_elim (λ (y : Has a s). sound s y)
+    (λ (y : (s ≡ left_at ps i) × EveryIn a (right_at ps i)). nullable known (sym y.0) (λ k x at. sound x (y.1 k x at)))
+    ((step s).0 h)
 
--- a sound and closed set is exact
-pub exact : (ps : List Production) (set : ℕ) → SoundSet ps set → ((k : ℕ) → k < length ps → ClosedAt ps set k) → (s : ℕ) → Has set s ↔ Nullable ps s
-exact ps set sound closed s = (sound s, nullable_in ps set closed)
+-- a set to which no production adds anything has every symbol that derives the empty list
+nullable_in : (ps : List Production) (set : ℕ) → ((k : ℕ) → k < length ps → Grown (production_at ps k) set set) → {s : ℕ} → Nullable ps s → Has set s
+nullable_in ps set fixed (nullable {p = p} known is rights) =
+    subst (Has set) is ((fixed p known (left_at ps p)).1 (inr (refl, λ k x at. nullable_in ps set fixed (rights k x at))))
+
+-- if it is sound, it is exact
+pub exact : (ps : List Production) (set : ℕ) → SoundSet ps set → ((k : ℕ) → k < length ps → Grown (production_at ps k) set set) → (s : ℕ) → Has set s ↔ Nullable ps s
+exact ps set sound fixed s = (sound s, nullable_in ps set fixed)

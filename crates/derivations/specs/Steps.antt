@@ -2,8 +2,7 @@
 pub use Rattle.bitset.specs.Steps.{Adds, Gathers}
 use Rattle.std.specs.Prelude.{◌≡◌, ℕ, List}
 use Rattle.grammar.specs.declared.rule.Relation.TheVariants.{Priority}
-use Rattle.grammar.specs.Grammar.{Production, Rule, Nonterminal, At, left_at, right_at}
-use Rattle.grammar.specs.Derivations.{Nullable}
+use Rattle.grammar.specs.Grammar.{Production, Rule, Nonterminal, At}
 use Rattle.bitset.specs.Bits.{Has}
 
 -- every symbol of xs is in the set
@@ -13,14 +12,6 @@ EveryIn set xs = (i x : ℕ) → At xs i x → Has set x
 -- every symbol of xs but the one at k is in the set
 abbrev pub OthersIn : ℕ → List ℕ → ℕ → Type 0
 OthersIn set xs k = (i x : ℕ) → At xs i x → (¬ (i ≡ k)) → Has set x
-
--- every symbol of the set derives the empty list
-abbrev pub SoundSet : List Production → ℕ → Type 0
-SoundSet ps set = (s : ℕ) → Has set s → Nullable ps s
-
--- the production of index p adds nothing to the set
-abbrev pub ClosedAt : List Production → ℕ → ℕ → Type 0
-ClosedAt ps set p = EveryIn set (right_at ps p) → Has set (left_at ps p)
 
 -- the production p of x has the nonterminal y at k, and all its other symbols are in the set
 abbrev pub Passes : ℕ → Production → ℕ → ℕ → ℕ → Type 0

@@ -15,7 +15,7 @@ ghost use Rattle.grammar.specs.Model.{production as production_of, productions a
 ghost use Rattle.bitset.specs.Bits.{Has};
 ghost use Rattle.bitset.specs.Relations.{Holds};
 ghost use Rattle.derivations.specs.Ranges.{Lefts, Between, Numbers};
-ghost use Rattle.derivations.specs.Steps.{EveryIn, OthersIn, SoundSet, ClosedAt, Passes, Prefers, Adds, Gathers};
+ghost use Rattle.derivations.specs.Steps.{EveryIn, OthersIn, Passes, Prefers, Adds, Gathers};
 
 use bitset::growing::grown;
 use bitset::rows::Rows;
@@ -45,26 +45,15 @@ fn with_production(set: u32, p: &Production) -> u32
     }
 }
 
-// One pass: each production in turn adds its left side to the set.
-fn pass(productions: &[Production], set: u32) -> u32
-    requires { Lefts (productions_of productions.now) }
-    ensures grows { set ≤ result }
-    ensures sound { SoundSet (productions_of productions.now) set → SoundSet (productions_of productions.now) result }
-    ensures closed { result ≡ set → (k : ℕ) → k < length productions.now → ClosedAt (productions_of productions.now) set k }
-{
-    let mut reached = set;
-    for p in productions {
-        reached = with_production(reached, p);
-    }
-    reached
-}
-
 // The set of the nonterminals that derive the empty list.
 pub fn nullable(productions: &[Production]) -> u32
     requires { Lefts (productions_of productions.now) }
     ensures { (s : ℕ) → Has result s ↔ Nullable (productions_of productions.now) s }
 {
-    grown(|set| pass(productions, set))
+    grown(
+        productions.len(),
+        |set, k| with_production(set, &productions[k]),
+    )
 }
 
 // Whether every symbol but the one at k is in the set.

@@ -1,16 +1,24 @@
 -- The least set of productions that fills the right side of each of its productions: the live ones.
-use Rattle.std.proofs.Common.{◌≡◌, ℕ, ◌+◌, ◌<◌, ◌≤◌, ◌⊎◌, ◌↔◌, List, length, sym, refl, ◌∙◌, subst, inl, inr, ⊎_elim, arith, below_more}
+use Rattle.std.proofs.Common.{◌≡◌, ℕ, ◌+◌, ◌≤◌, ◌⊎◌, ◌↔◌, List, sym, refl, ◌∙◌, subst, inl, inr, ⊎_elim, arith}
 use Rattle.grammar.specs.Grammar.{Production, Grammar, Nonterminal, At, Known, right_of, places}
 use Rattle.grammar.specs.Items.{Live, live, Fills, fills_kind, fills_live}
 use Rattle.grammar.specs.Sound.{SymbolsInRange}
 use Rattle.bitset.specs.Bits.{Has}
 use Rattle.tables.specs.Entries.{Admits, Tabulates, WaitsFor}
-use Rattle.tables.specs.Filling.{Filled, FillableAt, WhereWaits, LiveSet}
+use Rattle.tables.specs.Filling.{Filled, FillableAt}
 use Rattle.tables.specs.Places.{first_place}
 use Rattle.tables.proofs.Tabulating.{entry_at}
 
 live_known : {g : Grammar} {p : ℕ} → Live g p → Known g p
 live_known (live known fills) = known
+
+-- every production of the set is live
+abbrev pub LiveSet : Grammar → ℕ → Type 0
+LiveSet g set = (q : ℕ) → Has set q → Live g q
+
+-- what one production makes of the set a
+abbrev pub Grown : List Production → List ℕ → ℕ → ℕ → ℕ → Type 0
+Grown ps waits p a b = (q : ℕ) → Has b q ↔ (Has a q ⊎ ((q ≡ p) × FillableAt ps waits a p))
 
 module _ (g : Grammar) (waits : List ℕ) (table : Tabulates g.productions (WaitsFor g) waits) where
   -- what live productions fill is live
@@ -26,11 +34,17 @@ module _ (g : Grammar) (waits : List ℕ) (table : Tabulates g.productions (Wait
       fills_live (subst Nonterminal e fits.1) e fits.2 (sound f.0 f.1))
       (full k s at))
 
-  -- a closed set has every live production
-  module _ (set : ℕ) (closed : (p : ℕ) → Known g p → FillableAt g.productions waits set p → Has set p) where
+  pub still_live : SymbolsInRange g.productions → places g.productions ≤ 128 → (p a b : ℕ) → Known g p → Grown g.productions waits p a b → LiveSet g a → LiveSet g b
+  still_live symbols small p a b known step was q h =
+      ⊎_elim (λ (y : Has a q). was q y)
+      (λ (y : (q ≡ p) × FillableAt g.productions waits a p). subst (Live g) (sym y.0) (fill_live symbols small a was p known y.1))
+      ((step q).0 h)
+
+  -- a set to which no production is added has every live one
+  module _ (set : ℕ) (fixed : (p : ℕ) → Known g p → Grown g.productions waits p set set) where
     mutual
       live_in : (p : ℕ) → Live g p → Has set p
-      live_in p (live known fills) = closed p known (λ k s at. fills_in p k s known at (fills k s at))
+      live_in p (live known fills) = (fixed p known p).1 (inr (refl, λ k s at. fills_in p k s known at (fills k s at)))
 
       fills_in : (p k s : ℕ) → Known g p → At (right_of g p) k s → Fills g p k s → (16 ≤ s) ⊎ Filled waits set (first_place g.productions p + k)
       fills_in p k s known at (fills_kind kind) = inl kind.0
@@ -38,44 +52,6 @@ module _ (g : Grammar) (waits : List ℕ) (table : Tabulates g.productions (Wait
           let fits : Admits g p k q = ((at.0, at.1 ∙ sym is), subst Nonterminal (sym is) non, free) in
           inr (q, live_in q alive, (table q (first_place g.productions p + k)).1 (p, known, (k, at.0, ((live_known alive, fits), refl))))
 
-    -- a sound and closed set is exact
+    -- if it is sound, it is exact
     pub exact : LiveSet g set → (q : ℕ) → Has set q ↔ Live g q
     exact sound q = (sound q, live_in q)
-
--- what one production makes of the set a
-pub record Grown (ps : List Production) (waits : List ℕ) (p a b : ℕ) : Type 0 where
-  pub holds : (q : ℕ) → Has b q ↔ (Has a q ⊎ ((q ≡ p) × FillableAt ps waits a p))
-  pub grows : a ≤ b
-
--- what the first i productions make of the set
-pub record Passed (ps : List Production) (waits : List ℕ) (set grown i : ℕ) : Type 0 where
-  pub grows : set ≤ grown
-  pub sound : WhereWaits ps waits (λ g. LiveSet g set → LiveSet g grown)
-  pub closed : grown ≡ set → (p : ℕ) → p < i → FillableAt ps waits set p → Has set p
-
-pub passed_none : (ps : List Production) (waits : List ℕ) (set : ℕ) → Passed ps waits set set 0
-passed_none ps waits set = record { grows = omega arith; sound = λ rs start table sound. sound; closed = λ _ p l. absurd (omega arith) }
-
-pub passed_more :
-    (ps : List Production) (waits : List ℕ) (set a b i : ℕ) →
-    SymbolsInRange ps →
-    places ps ≤ 128 →
-    i < length ps →
-    Passed ps waits set a i →
-    Grown ps waits i a b →
-    Passed ps waits set b (i + 1)
-passed_more ps waits set a b i symbols small known old step =
-    record {
-      grows = omega (arith, old.grows, step.grows);
-      sound = λ rs start table sound q h.
-          let was = old.sound rs start table sound in
-          ⊎_elim (λ (y : Has a q). was q y)
-          (λ (y : (q ≡ i) × FillableAt ps waits a i).
-          let g : Grammar = record { start = start; productions = ps; rules = rs } in
-          subst (Live g) (sym y.0) (fill_live g waits table symbols small a was i known y.1))
-          ((step.holds q).0 h);
-      closed = λ same.
-          let still : a ≡ set = omega (arith, old.grows, step.grows) in
-          below_more (λ p. FillableAt ps waits set p → Has set p) i (old.closed still)
-          (λ full. subst (λ n. Has n i) same ((step.holds i).1 (inr (refl, subst (λ n. FillableAt ps waits n i) (sym still) full))));
-    }

@@ -1,7 +1,6 @@
 -- Right sides that a set of productions fills, by the table of places that wait for productions. Assumes nothing.
 use Rattle.std.specs.Prelude.{ℕ, ◌+◌, ◌≤◌, ◌⊎◌, List}
 use Rattle.grammar.specs.Grammar.{Production, Rule, Grammar, At, right_at}
-use Rattle.grammar.specs.Items.{Live}
 use Rattle.bitset.specs.Bits.{Has}
 use Rattle.tables.specs.Entries.{AnyStart, Tabulates, WaitsFor}
 use Rattle.tables.specs.Places.{first_place}
@@ -22,7 +21,3 @@ FillableAt ps waits set p = Fillable waits set (right_at ps p) (first_place ps p
 -- in every grammar with these productions whose places wait as the table says
 abbrev pub WhereWaits : List Production → List ℕ → (Grammar → Type 0) → Type 0
 WhereWaits ps waits P = (rs : List Rule) → AnyStart ps rs (λ g. Tabulates g.productions (WaitsFor g) waits → P g)
-
--- every production of the set is live
-abbrev pub LiveSet : Grammar → ℕ → Type 0
-LiveSet g set = (q : ℕ) → Has set q → Live g q

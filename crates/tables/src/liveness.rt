@@ -3,7 +3,7 @@ ghost use Rattle.grammar.specs.Grammar.{left_at};
 ghost use Rattle.grammar.specs.Items.{Live};
 ghost use Rattle.grammar.specs.Model.{productions as productions_of};
 ghost use Rattle.bitset.specs.Bits.{Has};
-ghost use Rattle.tables.specs.Filling.{Filled, Fillable, FillableAt, WhereWaits, LiveSet};
+ghost use Rattle.tables.specs.Filling.{Filled, Fillable, FillableAt, WhereWaits};
 
 use crate::source::Source;
 use bitset::cells::is_marked;
@@ -29,48 +29,30 @@ fn fillable(waits: &[u64; 64], set: u32, right: &[u8], first: usize) -> bool
     right.iter().enumerate().all(|(k, symbol)| *symbol >= 16 || is_filled(waits, set, first + k))
 }
 
-// The set with the production p, if the set fills its right side.
-fn with_filled(waits: &[u64; 64], set: u32, p: usize, right: &[u8], first: usize) -> u32
-    requires { (first + length right.now < 128) × (p < 32) }
-    ensures holds { (q : ℕ) → Has result q ↔ (Has set q ⊎ ((q ≡ p) × Fillable waits.now set right.now first)) }
-    ensures grows { set ≤ result }
-{
-    if fillable(waits, set, right, first) {
-        with(set, p)
-    } else {
-        set
-    }
-}
-
 impl Source<'_, '_> {
-    // One pass: each production in turn comes into the set, if the set fills its right side.
-    fn pass(&self, waits: &[u64; 64], set: u32) -> u32
+    // The set with the production p, if the set fills its right side.
+    fn with_filled(&self, waits: &[u64; 64], set: u32, p: usize) -> u32
+        requires { p < length self.now.productions.now }
+        ensures holds { (q : ℕ) →
+            Has result q ↔ (Has set q ⊎ ((q ≡ p) × FillableAt (productions_of self.now.productions.now) waits.now set p)) }
         ensures grows { set ≤ result }
-        ensures sound { WhereWaits (productions_of self.now.productions.now) waits.now (λ g. LiveSet g set → LiveSet g result) }
-        ensures closed { result ≡ set →
-            (p : ℕ) →
-            p < length (productions_of self.now.productions.now) →
-            FillableAt (productions_of self.now.productions.now) waits.now set p →
-            Has set p }
     {
-        let mut reached = set;
-        for (p, production) in self.productions.iter().enumerate() {
-            reached = with_filled(
-                waits,
-                reached,
-                p,
-                production.right(),
-                self.first[p] as usize,
-            );
+        let right = self.productions[p].right();
+        if fillable(waits, set, right, self.first[p] as usize) {
+            with(set, p)
+        } else {
+            set
         }
-        reached
     }
 
     // The live productions.
     pub(crate) fn live(&self, waits: &[u64; 64]) -> u32
         ensures { WhereWaits (productions_of self.now.productions.now) waits.now (λ g. (q : ℕ) → Has result q ↔ Live g q) }
     {
-        grown(|set| self.pass(waits, set))
+        grown(
+            self.productions.len(),
+            |set, p| self.with_filled(waits, set, p),
+        )
     }
 
     // The live productions whose left side is the start symbol.
