@@ -13,7 +13,12 @@ fn blank_count(text: &[u8]) -> usize
     ensures count { result ≡ prefix_len is_blank text.now }
     ensures within { result ≤ length text.now }
 {
-    text.iter().take_while(|byte| **byte == b' ').count()
+    for (i, byte) in text.iter().enumerate() {
+        if *byte != b' ' {
+            return i;
+        }
+    }
+    text.len()
 }
 
 // How many bytes the run in front of the text has.
@@ -21,7 +26,12 @@ fn run_size(text: &[u8]) -> usize
     ensures count { result ≡ prefix_len in_run text.now }
     ensures within { result ≤ length text.now }
 {
-    text.iter().take_while(|byte| of_run(**byte)).count()
+    for (i, byte) in text.iter().enumerate() {
+        if !of_run(*byte) {
+            return i;
+        }
+    }
+    text.len()
 }
 
 // The word that a run is.

@@ -20,7 +20,12 @@ fn first_index(bytes: &[u8], from: usize, byte: u8) -> Option<usize>
     requires { from ≤ length bytes.now }
     ensures { FirstFound bytes.now from byte result }
 {
-    (from..bytes.len()).find(|index| bytes[*index] == byte)
+    for (i, other) in bytes[from..].iter().enumerate() {
+        if *other == byte {
+            return Some(from + i);
+        }
+    }
+    None
 }
 
 // What stands before the first such byte, and what stands behind it; none where the byte does not stand in the text.

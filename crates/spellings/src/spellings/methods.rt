@@ -14,7 +14,12 @@ fn first_index(words: &[Spelling], word: &Spelling) -> Option<usize>
         (λ i. (i < length words.now) × ((d : Spelling) → spelling (slice_index_or words.now i d) ≡ spelling word.now)
         × ((k : ℕ) (d : Spelling) → k < i → ¬ (spelling (slice_index_or words.now k d) ≡ spelling word.now))) }
 {
-    words.iter().position(|w| w == word)
+    for (i, known) in words.iter().enumerate() {
+        if known == word {
+            return Some(i);
+        }
+    }
+    None
 }
 
 impl Spellings {
