@@ -19,9 +19,10 @@
  *
  * The answer is N + 256 * M:
  *   N = 0: the listing was written, M is its number of records;
- *   N = 1 to 8, 17 to 20: the book is refused, M is its line from 1, 0 for the
+ *   N = 2 to 8, 17 to 20: the book is refused, M is its line from 1, 0 for the
  *     whole text;
  *   N = 9, 11, 21: a word is refused, M is its place in the line in bytes;
+ *     for N = 21, M = 16384 says that the line has more bytes than that;
  *   N = 13: the words are no sentence, M is the length of the line;
  *   N = 15: the output is too short, M is 0; as many of the listing's first
  *     records are written as have room.

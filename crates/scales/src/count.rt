@@ -33,6 +33,6 @@ impl Semiring for Count {
     }
 
     fn value(_price: u16) -> Count {
-        Count { value: 1 }
+        Count::one()
     }
 }

@@ -32,6 +32,6 @@ impl Semiring for YesNo {
     }
 
     fn value(_price: u16) -> YesNo {
-        YesNo { yes: true }
+        YesNo::one()
     }
 }
