@@ -16,7 +16,7 @@ pub fn same_reading()
     ensures { SameReading }
 {}
 
-// A grammar with more productions has the sentences of the other, and the same kinds may come next.
+// A grammar with more productions has the sentences of the other, and at least the same kinds may come next.
 pub fn more_reading()
     ensures { MoreReading }
 {}

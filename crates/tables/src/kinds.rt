@@ -18,7 +18,8 @@ fn mark_kind(before: &mut [u64; 64], symbol: u8, d: usize)
     }
 }
 
-// Puts the places of a right side, from its first one on, into the sets of the kinds that stand there.
+// Puts the places of a right side, from its first one on, into the sets of the kinds that stand there. (The right side and its first
+// place go apart, as in `fillable`.)
 fn mark_kinds(before: &mut [u64; 64], right: &[u8], first: usize)
     requires symbols { (k : ℕ) → k < length right.now → slice_index right.now k < 48 }
     requires small { first + length right.now < 128 }

@@ -20,7 +20,8 @@ fn is_filled(waits: &[u64; 64], set: u32, d: usize) -> bool
     (0..32).any(|q| contains(set, q) && is_marked(waits, q, d))
 }
 
-// Whether each symbol of the right side, whose first place is given, is a kind or filled by the set.
+// Whether each symbol of the right side, whose first place is given, is a kind or filled by the set. (The right side and its first
+// place: two parts of what one production has, which each caller has at hand; a struct would be made to be taken apart.)
 fn fillable(waits: &[u64; 64], set: u32, right: &[u8], first: usize) -> bool
     requires { first + length right.now < 128 }
     ensures yes { result ≡ true → Fillable waits.now set right.now first }
