@@ -6,7 +6,6 @@ use Rattle.theory.specs.Claims.{Viable}
 use Rattle.scales.specs.Scales.{Scale, SemiringLaws}
 use Rattle.score_theory.specs.Scores.{Score, product}
 use Rattle.score_theory.proofs.SameTotals.{one_total}
-use Rattle.reading.specs.declared.look.Look.{Look}
 use Rattle.reading.specs.declared.reading.Reading.{Reading}
 use Rattle.reading.specs.Calls.{Puts}
 use Rattle.reading.specs.Readings.{words, grammar_of, Sees, Looked, ScoreCause, chart_too_short, table_too_short, Scored}
@@ -68,7 +67,7 @@ looks_agree :
     Ready (grammar_of q) q →
     Same (grammar_of r) (grammar_of q) →
     words r ≡ words q →
-    (a b : Result Look ReadingRefusal) →
+    (a b : Result (Bool × ℕ) ReadingRefusal) →
     Looked r a →
     Looked q b →
     LooksAlike a b
@@ -77,8 +76,8 @@ looks_agree r q s t same e (Ok x) (Err y) l m = absurd (m.0 t.long)
 looks_agree r q s t same e (Ok x) (Ok y) l m =
     let both = same_reading (grammar_of r) (grammar_of q) (formed r) (formed q) same in
     let here = l.1 s.marks in
-    let there = subst (λ w. Sees (grammar_of q) w y.sentence y.kinds) (sym e) (m.1 t.marks) in (
-      same_flag x.sentence y.sentence (onward here.whole (onward (both.sentences (words r)) (turned there.whole))),
+    let there = subst (λ w. Sees (grammar_of q) w y.0 y.1) (sym e) (m.1 t.marks) in (
+      same_flag x.0 y.0 (onward here.whole (onward (both.sentences (words r)) (turned there.whole))),
       λ b small. onward (here.next b small) (onward (second (both.viables (words r) (16 + b))) (turned (there.next b small))),
     )
   where

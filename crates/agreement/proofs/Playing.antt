@@ -1,9 +1,8 @@
 -- Steps and calls one after the other. Assumes nothing.
-use Rattle.std.proofs.Common.{◌≡◌, ℕ, ◌+◌, ◌<◌, List, [], ◌∷◌, ◌++◌, map, length, get_or, take, drop, set, Ok, Err, Result, sym, ap, ◌∙◌, subst, arith}
+use Rattle.std.proofs.Common.{◌≡◌, ℕ, ◌+◌, ◌<◌, Bool, List, [], ◌∷◌, ◌++◌, map, length, get_or, take, drop, set, Ok, Err, Result, sym, ap, ◌∙◌, subst, arith}
 use Rattle.std.proofs.lemmas.List.{take_more, take_more_set, drop-set-lt, drop-drop}
 use Rattle.grammar.specs.declared.refusals.ReadingRefusal.{ReadingRefusal}
 use Rattle.scales.specs.Scales.{Scale}
-use Rattle.reading.specs.declared.look.Look.{Look}
 use Rattle.reading.specs.declared.reading.Reading.{Reading}
 use Rattle.reading.specs.Readings.{Put, TakenFromEnd, Looked, Scored, without_value}
 use Rattle.agreement.specs.declared.call.Call.{Call}
@@ -20,7 +19,7 @@ module _ {V B : Type 0} {Lists : Reading → B → Result ℕ ReadingRefusal →
   pub back_made : (q : Reading) (a : Result ℕ ReadingRefusal) → call ≡ back_call → TakenFromEnd r a q → Step Lists Scores r b call (back_answer a) q b
   back_made q a e p = subst (λ x. Step Lists Scores r b x (back_answer a) q b) (sym e) (back_step p)
 
-  pub look_made : (a : Result Look ReadingRefusal) → call ≡ look_call → Looked r a → Step Lists Scores r b call (look_answer a) r b
+  pub look_made : (a : Result (Bool × ℕ) ReadingRefusal) → call ≡ look_call → Looked r a → Step Lists Scores r b call (look_answer a) r b
   look_made a e p = subst (λ x. Step Lists Scores r b x (look_answer a) r b) (sym e) (look_step p)
 
   pub list_made : (c : B) (a : Result ℕ ReadingRefusal) → call ≡ list_call → Lists r b a c → Step Lists Scores r b call (list_answer a) r c

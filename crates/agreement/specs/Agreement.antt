@@ -1,5 +1,5 @@
 -- What readings of grammars with the same content agree on. Assumes nothing.
-use Rattle.std.specs.Prelude.{◌≡◌, ℕ, ◌+◌, ◌*◌, ◌<◌, ◌≤◌, ◌↔◌, List, [], ◌∷◌, map, length, Ok, Err, Result}
+use Rattle.std.specs.Prelude.{◌≡◌, ℕ, ◌+◌, ◌*◌, ◌<◌, ◌≤◌, Bool, ◌↔◌, List, [], ◌∷◌, map, length, Ok, Err, Result}
 use Rattle.grammar.specs.declared.refusals.ReadingRefusal.{ReadingRefusal}
 use Rattle.grammar.specs.Grammar.{Grammar, places}
 use Rattle.grammar.specs.Sound.{WellFormed}
@@ -7,7 +7,6 @@ use Rattle.bitset.specs.Bits.{Has}
 use Rattle.theory.specs.Claims.{Viable}
 use Rattle.scales.specs.Scales.{Scale}
 use Rattle.score_theory.specs.Scores.{Score}
-use Rattle.reading.specs.declared.look.Look.{Look}
 use Rattle.reading.specs.declared.reading.Reading.{Reading}
 use Rattle.reading.specs.Readings.{words, grammar_of, Refused, Put, Looked, Scored}
 use Rattle.sameness.specs.Sames.{Same, More}
@@ -36,15 +35,15 @@ abbrev pub OneScore : {S : Type 0} → Scale S → Reading → Result S ReadingR
 OneScore {S} s r a b = (v : S) × (a ≡ Ok v) × (b ≡ Ok v) × Score s (grammar_of r) (words r) v
 
 -- both looks tell the same: whether the words are a sentence, and the same kinds
-abbrev pub LooksAlike : Result Look ReadingRefusal → Result Look ReadingRefusal → Type 0
-LooksAlike (Ok x) (Ok y) = (x.sentence ≡ y.sentence) × ((b : ℕ) → b < 32 → Has x.kinds b ↔ Has y.kinds b)
+abbrev pub LooksAlike : Result (Bool × ℕ) ReadingRefusal → Result (Bool × ℕ) ReadingRefusal → Type 0
+LooksAlike (Ok x) (Ok y) = (x.0 ≡ y.0) × ((b : ℕ) → b < 32 → Has x.1 b ↔ Has y.1 b)
 LooksAlike (Ok x) (Err e) = ⊥
 LooksAlike (Err e) b = ⊥
 
 -- what two readings agree on
 pub record Agree {S : Type 0} (s : Scale S) (r q : Reading) : Type 0 where
   pub puts : length (words r) < 48 → (kind : ℕ) → PutsAgree r q kind
-  pub looks : (a b : Result Look ReadingRefusal) → Looked r a → Looked q b → LooksAlike a b
+  pub looks : (a b : Result (Bool × ℕ) ReadingRefusal) → Looked r a → Looked q b → LooksAlike a b
   pub scores :
       (before after before' after' : List S) (a b : Result S ReadingRefusal) →
       Scored s r before a after →

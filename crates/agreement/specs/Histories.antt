@@ -1,10 +1,9 @@
 -- The histories of readings: the calls from opening on, each with its answer. Assumes nothing.
-use Rattle.std.specs.Prelude.{◌≡◌, ℕ, List, [], ◌∷◌, Result}
+use Rattle.std.specs.Prelude.{◌≡◌, ℕ, Bool, List, [], ◌∷◌, Result}
 use Rattle.grammar.specs.declared.refusals.ReadingRefusal.{ReadingRefusal}
 use Rattle.grammar.specs.Grammar.{Grammar}
 use Rattle.scales.specs.Scales.{Scale}
 use Rattle.listing_theory.specs.declared.record.Record.{Record}
-use Rattle.reading.specs.declared.look.Look.{Look}
 use Rattle.reading.specs.declared.reading.Reading.{Reading}
 use Rattle.reading.specs.Calls.{Puts, TakesBack}
 use Rattle.reading.specs.Readings.{Long, Opened, Put, TakenFromEnd, Looked, Listed, Scored, ScoreRefused, without_value}
@@ -30,7 +29,7 @@ plain (score_answer a) = score_answer (without_value a)
 pub data Step {V B : Type 0} (Lists : Reading → B → Result ℕ ReadingRefusal → B → Type 0) (Scores : Reading → B → Result V ReadingRefusal → B → Type 0) : Reading → B → Call → Answer V → Reading → B → Type 0 where
   put_step : {r q : Reading} {b : B} {kind : ℕ} {a : Result ℕ ReadingRefusal} → Put r kind a q → Step Lists Scores r b (put_call kind) (put_answer a) q b
   back_step : {r q : Reading} {b : B} {a : Result ℕ ReadingRefusal} → TakenFromEnd r a q → Step Lists Scores r b back_call (back_answer a) q b
-  look_step : {r : Reading} {b : B} {a : Result Look ReadingRefusal} → Looked r a → Step Lists Scores r b look_call (look_answer a) r b
+  look_step : {r : Reading} {b : B} {a : Result (Bool × ℕ) ReadingRefusal} → Looked r a → Step Lists Scores r b look_call (look_answer a) r b
   list_step : {r : Reading} {b c : B} {a : Result ℕ ReadingRefusal} → Lists r b a c → Step Lists Scores r b list_call (list_answer a) r c
   score_step : {r : Reading} {b c : B} {a : Result V ReadingRefusal} → Scores r b a c → Step Lists Scores r b score_call (score_answer a) r c
 

@@ -1,12 +1,11 @@
 use grammar::refusals::ReadingRefusal;
-use reading::look::Look;
 
 // What a call on a reading answered; a score is on a scale of the type S.
 #[derive(Clone, Copy, PartialEq, Eq, Debug)]
 pub enum Answer<S> {
     Put(Result<u8, ReadingRefusal>),
     TakenBack(Result<u8, ReadingRefusal>),
-    Looked(Result<Look, ReadingRefusal>),
+    Looked(Result<(bool, u32), ReadingRefusal>),
     Listed(Result<usize, ReadingRefusal>),
     Scored(Result<S, ReadingRefusal>),
 }

@@ -11,7 +11,6 @@ use Rattle.draft.specs.declared.sealed.Grammar.{Grammar as Sealed}
 use Rattle.draft.specs.Sealed.{sealed_model}
 use Rattle.small_grammars.specs.Next.{Next}
 use Rattle.small_grammars.proofs.Bits.{same_bits}
-use Rattle.reading.specs.declared.look.Look.{Look}
 use Rattle.reading.specs.declared.reading.Reading.{Reading}
 use Rattle.reading.specs.Calls.{Puts, TakesBack, PutCause, line_full, no_kind, nothing_begins, BackCause, no_word}
 use Rattle.reading.specs.Readings.{words, cells, grammar_of, Long, Marks, Changes, Put, TakenFromEnd, Looked, Sees, Opened}
@@ -105,11 +104,11 @@ module _ (before after : Reading) (g : Grammar) (ws : List ℕ) (kind : ℕ) (r 
       (b.0, changed_stands _ before after g r _ _ p s b.1)
 
 -- a look answers what may come next; its mask is a u32
-pub look_stands : (r : Reading) (g : Grammar) (ws : List ℕ) (sentence : Bool) (mask : ℕ) (x : Look) → Looked r (Ok x) → Stands r g ws → length ws < 48 → Next g ws sentence mask → mask < 2 ^ 32 → x.kinds < 2 ^ 32 → x ≡ record { sentence = sentence; kinds = mask }
+pub look_stands : (r : Reading) (g : Grammar) (ws : List ℕ) (sentence : Bool) (mask : ℕ) (x : Bool × ℕ) → Looked r (Ok x) → Stands r g ws → length ws < 48 → Next g ws sentence mask → mask < 2 ^ 32 → x.1 < 2 ^ 32 → x ≡ (sentence, mask)
 look_stands r g ws b n y q s l x v u =
-    let a : Sees g ws y.sentence y.kinds = rw (← s.grammar, ← s.standing) (q.1 s.marks) in
-    let e = sees g ws y.sentence b y.kinds n a x l u v in
-    λ i. record { sentence = e.0 i; kinds = e.1 i }
+    let a : Sees g ws y.0 y.1 = rw (← s.grammar, ← s.standing) (q.1 s.marks) in
+    let e = sees g ws y.0 b y.1 n a x l u v in
+    λ i. (e.0 i, e.1 i)
 
 -- no result is both
 pub never : {V : Type 0} (r : Result V ReadingRefusal) (v : V) (e : ReadingRefusal) → r ≡ Ok v → r ≡ Err e → ⊥

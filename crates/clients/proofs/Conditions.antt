@@ -1,11 +1,10 @@
 -- The words that are put to conditions, and what the looks answer.
-use Rattle.std.proofs.Common.{◌≡◌, ℕ, ◌^◌, ◌<◌, true, false, List, [], ◌∷◌, Ok, Result, refl, arith}
+use Rattle.std.proofs.Common.{◌≡◌, ℕ, ◌^◌, ◌<◌, Bool, true, false, List, [], ◌∷◌, Ok, Result, refl, arith}
 use Rattle.grammar.specs.declared.refusals.ReadingRefusal.{ReadingRefusal}
 use Rattle.bitset.specs.Bits.{bit}
 use Rattle.theory.specs.Claims.{Sentence, Viable}
 use Rattle.small_grammars.specs.Grammars.{conditions_grammar}
 use Rattle.small_grammars.proofs.Examples.{examples}
-use Rattle.reading.specs.declared.look.Look.{Look}
 use Rattle.reading.specs.declared.reading.Reading.{Reading}
 use Rattle.reading.specs.Readings.{Put, Looked}
 use Rattle.clients.proofs.Calls.{Stands, put_stands, look_stands}
@@ -41,12 +40,12 @@ module _ (before after : Reading) (r : Result ℕ ReadingRefusal) where
       put_stands before after conditions_grammar (19 ∷ []) 21 r p s (omega arith) (omega arith, omega arith) (w.0, 20 ∷ w.1, w.2, w.3)
 
 -- what the looks answer
-module _ (r : Reading) (x : Look) (q : Looked r (Ok x)) (f : x.kinds < 2 ^ 32) where
-  pub look_empty : Stands r conditions_grammar [] → x ≡ record { sentence = false; kinds = 44 }
+module _ (r : Reading) (x : Bool × ℕ) (q : Looked r (Ok x)) (f : x.1 < 2 ^ 32) where
+  pub look_empty : Stands r conditions_grammar [] → x ≡ (false, 44)
   look_empty s = look_stands r conditions_grammar [] false 44 x q s (omega arith) examples.conditions_empty (omega arith) f
 
-  pub look_name : Stands r conditions_grammar (21 ∷ []) → x ≡ record { sentence = true; kinds = 3 }
+  pub look_name : Stands r conditions_grammar (21 ∷ []) → x ≡ (true, 3)
   look_name s = look_stands r conditions_grammar (21 ∷ []) true 3 x q s (omega arith) examples.conditions_name (omega arith) f
 
-  pub look_open_name : Stands r conditions_grammar (19 ∷ 21 ∷ []) → x ≡ record { sentence = false; kinds = 19 }
+  pub look_open_name : Stands r conditions_grammar (19 ∷ 21 ∷ []) → x ≡ (false, 19)
   look_open_name s = look_stands r conditions_grammar (19 ∷ 21 ∷ []) false 19 x q s (omega arith) examples.conditions_open_name (omega arith) f

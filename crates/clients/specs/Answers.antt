@@ -6,11 +6,7 @@ use Rattle.clients.specs.declared.Seen.{Seen}
 
 -- the answers of the looks at conditions
 abbrev pub conditions_answers : Seen
-conditions_answers = record {
-  empty = record { sentence = false; kinds = 44 };
-  name = record { sentence = true; kinds = 3 };
-  open_name = record { sentence = false; kinds = 19 };
-}
+conditions_answers = record { empty = (false, 44); name = (true, 3); open_name = (false, 19) }
 
 -- the listing of NAME "or" NAME "and" NAME in conditions: the "and" stands below the "or"
 abbrev pub or_and_listing : List Record

@@ -20,16 +20,15 @@ use draft::draft::Draft;
 use draft::sealed::Grammar;
 use grammar::refusals::ReadingRefusal;
 use listing_theory::record::Record;
-use reading::look::Look;
 use reading::reading::Reading;
 use scales::values::{Count, Price};
 
 // The answers of three looks: after no words, after NAME, and after "(" and NAME.
 #[derive(Clone, Copy)]
 pub struct Seen {
-    pub empty: Look,
-    pub name: Look,
-    pub open_name: Look,
+    pub empty: (bool, u32),
+    pub name: (bool, u32),
+    pub open_name: (bool, u32),
 }
 
 // Looks at the empty line, at NAME and at "(" NAME, where 19 is the kind "(" and 21 the kind NAME.

@@ -8,7 +8,6 @@ use draft::draft::Draft;
 use draft::sealed::Grammar;
 use grammar::refusals::ReadingRefusal::{NoSentence, NoWord, NothingBegins};
 use grammar::rule::Relation;
-use reading::look::Look;
 use reading::reading::Reading;
 use scales::values::Count;
 use std::process::Abort;
@@ -34,10 +33,7 @@ fn typed_answers() -> [Answer<Count>; 12] {
     [
         Answer::TakenBack(Err(NoWord)),
         Answer::Put(Ok(1)),
-        Answer::Looked(Ok(Look {
-            sentence: true,
-            kinds: 3,
-        })),
+        Answer::Looked(Ok((true, 3))),
         Answer::Put(Ok(2)),
         Answer::Listed(Err(NoSentence)),
         Answer::TakenBack(Ok(1)),

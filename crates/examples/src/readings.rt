@@ -4,7 +4,6 @@ use files::spelled::SpelledDraft;
 use grammar::refusals::ReadingRefusal;
 use grammar::refusals::ReadingRefusal::{LineFull, NoKind, NoWord, NothingBegins, ShortChart};
 use reading::chart_fits;
-use reading::look::Look;
 use reading::reading::Reading;
 use std::process::Abort;
 
@@ -49,7 +48,7 @@ fn sum_of(cells: &[u64]) -> u64 {
 }
 
 // What the first look after these kinds answers.
-fn look_after(grammar: &Grammar, kinds: &[u8]) -> Result<Look, ReadingRefusal> {
+fn look_after(grammar: &Grammar, kinds: &[u8]) -> Result<(bool, u32), ReadingRefusal> {
     let mut chart = [7u64; 4802];
     let mut reading = Reading::open(grammar, &mut chart);
     put_all(&mut reading, kinds)?;
@@ -59,33 +58,12 @@ fn look_after(grammar: &Grammar, kinds: &[u8]) -> Result<Look, ReadingRefusal> {
 #[test]
 fn conditions_looked_at(rt: HostRuntime) {
     let grammar = conditions(&rt);
-    assert_eq!(rt;
-        look_after(&grammar, &[]),
-        Ok(Look {
-            sentence: false,
-            kinds: 44
-        })
-    );
-    assert_eq!(rt;
-        look_after(&grammar, &[21]),
-        Ok(Look {
-            sentence: true,
-            kinds: 3
-        })
-    );
-    assert_eq!(rt;
-        look_after(&grammar, &[19, 21]),
-        Ok(Look {
-            sentence: false,
-            kinds: 19
-        })
-    );
+    assert_eq!(rt; look_after(&grammar, &[]), Ok((false, 44)));
+    assert_eq!(rt; look_after(&grammar, &[21]), Ok((true, 3)));
+    assert_eq!(rt; look_after(&grammar, &[19, 21]), Ok((false, 19)));
     assert_eq!(rt;
         look_after(&grammar, &[21, 17, 18, 21, 16, 21]),
-        Ok(Look {
-            sentence: true,
-            kinds: 3
-        })
+        Ok((true, 3))
     );
     assert_eq!(rt; look_after(&grammar, &[21, 21]), Err(NothingBegins));
     assert_eq!(rt; look_after(&grammar, &[20]), Err(NothingBegins));
@@ -102,29 +80,11 @@ fn words_put_and_taken_back(rt: HostRuntime) {
     assert_eq!(rt; reading.put(16), Err(NothingBegins));
     assert_eq!(rt; reading.put(21), Ok(1));
     assert_eq!(rt; reading.put(16), Ok(2));
-    assert_eq!(rt;
-        reading.look(),
-        Ok(Look {
-            sentence: false,
-            kinds: 44
-        })
-    );
+    assert_eq!(rt; reading.look(), Ok((false, 44)));
     assert_eq!(rt; reading.take_back(), Ok(1));
-    assert_eq!(rt;
-        reading.look(),
-        Ok(Look {
-            sentence: true,
-            kinds: 3
-        })
-    );
+    assert_eq!(rt; reading.look(), Ok((true, 3)));
     assert_eq!(rt; reading.take_back(), Ok(0));
-    assert_eq!(rt;
-        reading.look(),
-        Ok(Look {
-            sentence: false,
-            kinds: 44
-        })
-    );
+    assert_eq!(rt; reading.look(), Ok((false, 44)));
 }
 
 #[test]
@@ -133,21 +93,9 @@ fn forty_eight_words(rt: HostRuntime) {
     let mut chart = [0u64; 4802];
     let mut reading = Reading::open(&grammar, &mut chart);
     assert_eq!(rt; put_all(&mut reading, &[16; 47]), Ok(47));
-    assert_eq!(rt;
-        reading.look(),
-        Ok(Look {
-            sentence: true,
-            kinds: 1
-        })
-    );
+    assert_eq!(rt; reading.look(), Ok((true, 1)));
     assert_eq!(rt; reading.put(16), Ok(48));
-    assert_eq!(rt;
-        reading.look(),
-        Ok(Look {
-            sentence: true,
-            kinds: 0
-        })
-    );
+    assert_eq!(rt; reading.look(), Ok((true, 0)));
     assert_eq!(rt; reading.put(16), Err(LineFull));
     assert_eq!(rt; reading.put(0), Err(LineFull));
     assert_eq!(rt; reading.take_back(), Ok(47));

@@ -16,7 +16,6 @@ use Rattle.listing.specs.Calls.{Listed as Lists}
 use Rattle.score.specs.Filled.{Filled}
 use Rattle.chart.specs.Chart.{Charted, RestKept}
 use Rattle.draft.specs.Sealed.{sealed_model}
-use Rattle.reading.specs.declared.look.Look.{Look}
 use Rattle.reading.specs.declared.reading.Reading.{Reading}
 use Rattle.reading.specs.Calls.{Puts, TakesBack}
 
@@ -78,8 +77,8 @@ pub record Sees (g : Grammar) (ws : List ℕ) (sentence : Bool) (mask : ℕ) : T
   pub whole : (sentence ≡ true) ↔ Sentence g ws
   pub next : (b : ℕ) → b < 32 → Has mask b ↔ ((length ws < 48) × Viable g ws (16 + b))
 
-abbrev pub Looked : Reading → Result Look ReadingRefusal → Type 0
-Looked r (Ok x) = Long (cells r) × (Marks r → Sees (grammar_of r) (words r) x.sentence x.kinds)
+abbrev pub Looked : Reading → Result (Bool × ℕ) ReadingRefusal → Type 0
+Looked r (Ok x) = Long (cells r) × (Marks r → Sees (grammar_of r) (words r) x.0 x.1)
 Looked r (Err e) = (¬ Long (cells r)) × (e ≡ ShortChart)
 
 -- a reading that was opened on a chart: no words stand; a chart that is long enough marks their items, a short one is as it was

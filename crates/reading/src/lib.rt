@@ -2,7 +2,6 @@
 
 #![tactic(auto)]
 
-pub mod look;
 pub mod reading;
 
 ghost use Rattle.std.specs.Prelude.{◌≡◌, true, false};

@@ -1,11 +1,10 @@
 -- Verdicts from what the calls of a reading answer. Assumes nothing.
-use Rattle.std.proofs.Common.{◌≡◌, ℕ, true, false, Ok, Err, Result, sym, refl, ap, ◌∙◌, subst, arith}
+use Rattle.std.proofs.Common.{◌≡◌, ℕ, Bool, true, false, Ok, Err, Result, sym, refl, ap, ◌∙◌, subst, arith}
 use Rattle.std.proofs.lemmas.Bool.{true≢false}
 use Rattle.grammar.specs.declared.refusals.ReadingRefusal.{ReadingRefusal}
 use Rattle.grammar.specs.declared.refusals.ReadingRefusal.TheVariants.{LineFull, NoKind, NothingBegins, NoWord, NoSentence, ShortChart, ShortListing, ShortTable}
 use Rattle.grammar.specs.declared.refusals.Refusal.TheVariants.{Reading as Layer}
 use Rattle.grammar.specs.Refusals.{number as number_of}
-use Rattle.reading.specs.declared.look.Look.{Look}
 use Rattle.reading.specs.declared.reading.Reading.{Reading}
 use Rattle.reading.specs.Readings.{Long, Marks, Looked, ScoreCause, chart_too_short, table_too_short, ScoreRefused, cells}
 use Rattle.lines.specs.Lines.{fault}
@@ -44,15 +43,15 @@ module _ (r : Reading) where
     judged_short e h = subst (λ x. WordsJudged r end (Err (fault (Layer x) 0))) (sym h.1) (chart_short h.0)
 
     -- no sentence
-    pub judged_none : (k : Look) → Looked r (Ok k) → (Long (cells r) → Marks r) → k.sentence ≡ false → WordsJudged r end (Err (fault (Layer NoSentence) end))
+    pub judged_none : (k : Bool × ℕ) → Looked r (Ok k) → (Long (cells r) → Marks r) → k.0 ≡ false → WordsJudged r end (Err (fault (Layer NoSentence) end))
     judged_none k h marks f = no_sentence h.0 (λ t. true≢false (sym ((h.1 (marks h.0)).whole.1 t) ∙ f))
 
     -- a sentence for which the tables are too short
     pub judged_unscored :
-        (k : Look) (e : ReadingRefusal) →
+        (k : Bool × ℕ) (e : ReadingRefusal) →
         Looked r (Ok k) →
         (Long (cells r) → Marks r) →
-        k.sentence ≡ true →
+        k.0 ≡ true →
         BothScores r (Err e) →
         WordsJudged r end (Err (fault (Layer e) 0))
     judged_unscored k e h marks t b =
@@ -61,10 +60,10 @@ module _ (r : Reading) where
 
     -- a sentence with its scores
     pub judged_scored :
-        (k : Look) (x : Scores) →
+        (k : Bool × ℕ) (x : Scores) →
         Looked r (Ok k) →
         (Long (cells r) → Marks r) →
-        k.sentence ≡ true →
+        k.0 ≡ true →
         BothScores r (Ok x) →
         WordsJudged r end (Ok x)
     judged_scored k x h marks t (c, p, long, a, b, i, j) =

@@ -16,10 +16,10 @@ use spellings::spellings::Spellings;
 fn judge_words(reading: &Reading, tables: &mut ScoreTables, end: usize) -> Result<Scores, LineFault>
     ensures { (Long (cells reading.now) → Marks reading.now) → WordsJudged reading.now end result }
 {
-    let look = reading
+    let (sentence, _) = reading
         .look()
         .map_err(|refusal| LineFault::of_words(refusal, 0))?;
-    if !look.sentence {
+    if !sentence {
         return Err(LineFault::of_words(ReadingRefusal::NoSentence, end));
     }
     tables

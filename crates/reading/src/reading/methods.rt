@@ -4,7 +4,6 @@ ghost use Rattle.reading.specs.Readings.{Put, TakenFromEnd, Looked, Opened, List
 
 use super::Reading;
 use super::changing::{put_word, take_word};
-use crate::look::Look;
 use chart::{CELL_COUNT, Cells, accepts, expected_kinds, open_chart};
 use draft::sealed::Grammar;
 use grammar::bytes::Bytes;
@@ -51,8 +50,9 @@ impl<'b, 'c> Reading<'b, 'c> {
         self.chart.first_chunk().ok_or(ReadingRefusal::ShortChart)
     }
 
-    // Whether the words that stand are a sentence, and which kinds may come next: none where 48 words stand.
-    pub fn look(&self) -> Result<Look, ReadingRefusal>
+    // Whether the words that stand are a sentence, and the kinds that may come next: bit b for the kind 16 + b, none where 48 words
+    // stand. A plain pair is this project's form for it.
+    pub fn look(&self) -> Result<(bool, u32), ReadingRefusal>
         ensures { Looked self.now result }
     {
         let cells = self.cells()?;
@@ -60,10 +60,10 @@ impl<'b, 'c> Reading<'b, 'c> {
         let count = self.line.len();
         let sentence = accepts(tables, cells, count);
         if self.line.is_full() {
-            return Ok(Look { sentence, kinds: 0 });
+            return Ok((sentence, 0));
         }
         let kinds = expected_kinds(tables, cells, count);
-        Ok(Look { sentence, kinds })
+        Ok((sentence, kinds))
     }
 
     // Lists the smallest tree of the words that stand into the records, and answers how many records it has.
