@@ -3,5 +3,4 @@ pub mod Stored
 pub mod Unique
 pub mod Free
 pub mod Lines
-pub mod Splits
 pub mod Writes

@@ -9,21 +9,10 @@ use Rattle.syntax.specs.Free.{FreeOf}
 use Rattle.syntax.specs.Syntax.{ValidSpelling, ValidSymbol, spelling_text, symbol_text, letter, sign}
 use Rattle.syntax.specs.Model.{spelling, symbol}
 
--- r is the first index at or after `from` where the byte stands, or the length where there is none
-pub record FirstIndex (bytes : List ℕ) (from byte r : ℕ) : Type 0 where
-  pub after : from ≤ r
-  pub within : r ≤ length bytes
-  pub none : (k : ℕ) → from ≤ k → k < r → ¬ (slice_index bytes k ≡ byte)
-  pub found : r < length bytes → slice_index bytes r ≡ byte
-
--- the first index at or after `from` where the byte stands, or that there is none
-abbrev pub FirstFound : List ℕ → ℕ → ℕ → Option ℕ → Type 0
-FirstFound bytes from byte (Some r) = (r < length bytes) × FirstIndex bytes from byte r
-FirstFound bytes from byte None = (k : ℕ) → from ≤ k → k < length bytes → ¬ (slice_index bytes k ≡ byte)
-
--- the index of the first line feed at or after `from`, or that there is none
-abbrev pub LineEnd : List ℕ → ℕ → Option ℕ → Type 0
-LineEnd text from r = FirstFound text from 10 r
+-- the first index where the byte stands, or that there is none
+abbrev pub FirstFound : List ℕ → ℕ → Option ℕ → Type 0
+FirstFound bytes byte (Some r) = (r < length bytes) × (slice_index bytes r ≡ byte) × ((k : ℕ) → k < r → ¬ (slice_index bytes k ≡ byte))
+FirstFound bytes byte None = (k : ℕ) → k < length bytes → ¬ (slice_index bytes k ≡ byte)
 
 -- what stands before the first such byte and behind it, or that the byte does not stand in the text
 abbrev pub CutsAt : ℕ → List ℕ → Option (Bor (List ℕ) × Bor (List ℕ)) → Type 0

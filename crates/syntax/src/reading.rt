@@ -2,7 +2,6 @@ ghost use Rattle.std.specs.Prelude.{◌≤◌, length};
 ghost use Rattle.syntax.specs.Reading.{
   FirstFound,
   CutsAt,
-  LineEnd,
   ReadsDigits,
   ReadsNumber,
   Quoted,
@@ -15,14 +14,13 @@ ghost use Rattle.syntax.specs.Reading.{
 use crate::spelling::{Literal, Spelling, Symbol};
 use grammar::rule::Relation;
 
-// The first index at or after `from` where the byte stands; none where it stands nowhere there.
-fn first_index(bytes: &[u8], from: usize, byte: u8) -> Option<usize>
-    requires { from ≤ length bytes.now }
-    ensures { FirstFound bytes.now from byte result }
+// The first index where the byte stands; none where it stands nowhere. (by `for` with an index: this project's form where words are cut)
+fn first_index(bytes: &[u8], byte: u8) -> Option<usize>
+    ensures { FirstFound bytes.now byte result }
 {
-    for (i, other) in bytes[from..].iter().enumerate() {
+    for (i, other) in bytes.iter().enumerate() {
         if *other == byte {
-            return Some(from + i);
+            return Some(i);
         }
     }
     None
@@ -32,16 +30,8 @@ fn first_index(bytes: &[u8], from: usize, byte: u8) -> Option<usize>
 pub fn cut_at(text: &[u8], byte: u8) -> Option<(&[u8], &[u8])>
     ensures { CutsAt byte text.now result }
 {
-    let end = first_index(text, 0, byte)?;
+    let end = first_index(text, byte)?;
     Some((&text[..end], &text[end + 1..]))
-}
-
-// Where the line that begins at `from` ends: at the next line feed; none where there is none.
-pub fn line_end(text: &[u8], from: usize) -> Option<usize>
-    requires { from ≤ length text.now }
-    ensures { LineEnd text.now from result }
-{
-    first_index(text, from, b'\n')
 }
 
 // The number that at most five digits write; none where some byte is no digit.
@@ -119,15 +109,16 @@ pub fn read_letter(part: &[u8]) -> Option<u8>
     }
 }
 
-// The relation whose sign the byte is. (Not of Relation itself: signs belong to files.)
+// The relation whose sign the byte is. (Not of Relation itself: signs belong to files. The sign is matched as a char, which is this
+// project's form for it.)
 pub fn read_relation(sign: u8) -> Option<Relation>
     ensures { ReadsRelation sign result }
 {
-    match sign {
-        b'>' => Some(Relation::Priority),
-        b'L' => Some(Relation::Left),
-        b'R' => Some(Relation::Right),
-        b'N' => Some(Relation::NonAssoc),
+    match sign as char {
+        '>' => Some(Relation::Priority),
+        'L' => Some(Relation::Left),
+        'R' => Some(Relation::Right),
+        'N' => Some(Relation::NonAssoc),
         _ => None,
     }
 }

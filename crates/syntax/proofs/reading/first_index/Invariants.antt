@@ -1,5 +1,5 @@
-use Rattle.std.proofs.Common.{◌≡◌, ℕ, ◌+◌, ◌<◌, ◌≤◌, slice_index}
+use Rattle.std.proofs.Common.{◌≡◌, ℕ, ◌<◌, slice_index}
 use Rattle.syntax.proofs.reading.first_index.Given as goal
 
 abbrev pub invariant-loop-i : goal.invariant-loop-i
-invariant-loop-i l = (k : ℕ) → l.from ≤ k → k < l.from + l.i → ¬ (slice_index l.bytes k ≡ l.byte)
+invariant-loop-i l = (k : ℕ) → k < l.i → ¬ (slice_index l.bytes k ≡ l.byte)
