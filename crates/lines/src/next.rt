@@ -1,33 +1,22 @@
-ghost use Rattle.std.specs.Prelude.{◌≡◌, ◌-◌, ◌≤◌, length};
+ghost use Rattle.std.specs.Prelude.{◌≡◌, ℕ, ◌-◌, ◌≤◌, Bool, length};
 ghost use Rattle.std.specs.Iterator.{at_most};
 ghost use Rattle.std.specs.List.{prefix_len};
-ghost use Rattle.lines.specs.Bytes.{is_blank, in_run};
 ghost use Rattle.lines.specs.Cuts.{word_of_run};
 ghost use Rattle.lines.specs.Model.{word_of, Next, Within};
 
 use crate::bytes::{all_digits, of_run, starts_name, visible};
 use crate::word::Word;
 
-// How many blanks are in front of the text.
-fn blank_count(text: &[u8]) -> usize
-    ensures count { result ≡ prefix_len is_blank text.now }
+// How many bytes at the front of the text pass the test. (by `for` with an index: this project's form where words are cut)
+fn front<F: Fn(u8) -> bool>(text: &[u8], passes: F) -> usize
+    requires { F.IsAlwaysCallable passes }
+    ensures count { (p : ℕ → Bool) →
+        ((byte : ℕ) (passed : Bool) → F.post passes byte passed → passed ≡ p byte) →
+        result ≡ prefix_len p text.now }
     ensures within { result ≤ length text.now }
 {
     for (i, byte) in text.iter().enumerate() {
-        if *byte != b' ' {
-            return i;
-        }
-    }
-    text.len()
-}
-
-// How many bytes the run in front of the text has.
-fn run_size(text: &[u8]) -> usize
-    ensures count { result ≡ prefix_len in_run text.now }
-    ensures within { result ≤ length text.now }
-{
-    for (i, byte) in text.iter().enumerate() {
-        if !of_run(*byte) {
+        if !passes(*byte) {
             return i;
         }
     }
@@ -53,11 +42,11 @@ pub fn next_word<'a>(line: &'a [u8], from: usize) -> Option<(Word<'a>, usize)>
     ensures within { Within line.now from result }
 {
     let rest = line.get(from..)?;
-    let start = from + blank_count(rest);
+    let start = from + front(rest, |byte| byte == b' ');
     if start >= line.len() {
         return None;
     }
-    let end = start + run_size(&line[start..]);
+    let end = start + front(&line[start..], |byte| of_run(byte));
     if end > start {
         return Some((run_word(&line[start..end]), start));
     }
