@@ -7,7 +7,8 @@ use listing_theory::record::Record;
 use reading::reading::Reading;
 use scales::Semiring;
 
-// Makes one call on the reading. The records and the table are lent apart: a struct of both would be made anew for each call.
+// Makes one call on the reading. The records and the table are two buffers of the caller's, as `list` and `score` take them: a struct of both
+// would be there for this function alone.
 fn make<S: Semiring>(
     reading: &mut Reading,
     call: Call,

@@ -15,18 +15,8 @@ pub fn read_mark(text: &[u8]) -> Option<&[u8]>
 pub fn read_start(text: &[u8]) -> Option<(u8, &[u8])>
     ensures { ReadsStart text.now result }
 {
-    match text {
-        [
-            b's',
-            b't',
-            b'a',
-            b'r',
-            b't',
-            b' ',
-            letter @ b'A'..=b'P',
-            b'\n',
-            rest @ ..,
-        ] => Some((*letter - b'A', rest)),
+    match text.strip_prefix(b"start ")? {
+        [letter @ b'A'..=b'P', b'\n', rest @ ..] => Some((*letter - b'A', rest)),
         _ => None,
     }
 }
@@ -58,7 +48,8 @@ fn cut_sign(text: &[u8]) -> Option<(u8, &[u8])>
     }
 }
 
-// The two numbers of a rule line and the relation between them; none where the line is no rule line.
+// The two numbers of a rule line and the relation between them; none where the line is no rule line. (as they are written: there is no
+// `Rule` before the numbers are known to name productions)
 pub fn read_rule(line: &[u8]) -> Option<(u16, Relation, u16)>
     ensures { ReadsRule line.now result }
 {

@@ -9,10 +9,9 @@ ghost use Rattle.files.specs.Reading.{IsWord, IsProduction, IsRule, ReadsAs};
 use crate::spelled::SpelledDraft;
 use file_lines::reading::{cut_left, cut_word, read_mark, read_rule, read_start};
 use file_model::fault::Fault;
-use grammar::bytes::Bytes;
 use grammar::refusals::{FileRefusal, Refusal};
 use spellings::reading::read_right;
-use spellings::right::RightFault;
+use spellings::right::PricedRight;
 use syntax::reading::{cut_at, read_spelling};
 
 impl SpelledDraft {
@@ -25,21 +24,17 @@ impl SpelledDraft {
         Ok(())
     }
 
-    // Adds the production of a production line whose right side was read.
-    fn add_line(
-        &mut self,
-        left: u8,
-        right: Result<Bytes<6>, RightFault>,
-        price: u16,
-    ) -> Result<(), Refusal>
+    // Adds the production of a production line whose right side and price were read.
+    fn add_line(&mut self, left: u8, priced: PricedRight) -> Result<(), Refusal>
         requires { left < 16 }
         ensures { (ss : List Symbol) →
             ValidSymbols ss →
-            Gathers (words self.old.spellings) ss right →
-            Does (model self.old) (production_line left ss price) result (model self.new) }
+            Gathers (words self.old.spellings) ss priced.right →
+            Does (model self.old) (production_line left ss priced.price) result (model self.new) }
     {
-        let symbols = right?;
-        self.draft.add_production(left, symbols.as_slice(), price)?;
+        let symbols = priced.right?;
+        self.draft
+            .add_production(left, symbols.as_slice(), priced.price)?;
         Ok(())
     }
 
@@ -49,7 +44,7 @@ impl SpelledDraft {
         ensures { ReadsAs IsProduction (model self.old) ((65 + left) ∷ 32 ∷ 61 ∷ 32 ∷ text.now) result (model self.new) }
     {
         let priced = read_right(text, &self.spellings).ok_or(FileRefusal::Form)?;
-        self.add_line(left, priced.right, priced.price)
+        self.add_line(left, priced)
     }
 
     // Adds the rule of a line that can only be a rule line.
@@ -97,7 +92,8 @@ impl SpelledDraft {
         Ok(1)
     }
 
-    // Empties the spelled draft, reads a grammar file into it, and answers the file's version.
+    // Empties the spelled draft, reads a grammar file into it, and answers the file's version. (Into a draft that there is, since the clause
+    // also says what a refusal leaves.)
     pub fn read(&mut self, text: &[u8]) -> Result<u16, Fault>
         ensures { Reads text.now result (model self.new) }
     {
@@ -112,6 +108,7 @@ impl SpelledDraft {
         let Some((symbol, body)) = read_start(rest) else {
             return Err(Fault::in_file(FileRefusal::Form, 2));
         };
+        // (a letter from A to P: a nonterminal, which is never refused)
         let _ = self.draft.set_start(symbol);
         self.read_lines(body)
     }

@@ -6,7 +6,7 @@ ghost use Rattle.lines.specs.Bytes.{is_letter, is_digit, in_run, is_visible, beg
 pub(crate) fn letter(byte: u8) -> bool
     ensures { result ≡ is_letter byte }
 {
-    matches!(byte, b'a'..=b'z' | b'A'..=b'Z' | b'_')
+    byte.is_ascii_alphabetic() || byte == b'_'
 }
 
 // Whether the byte is a digit.

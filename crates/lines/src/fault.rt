@@ -2,7 +2,7 @@ use grammar::refusals::{LineRefusal, ReadingRefusal, Refusal};
 use std::fmt;
 
 // Why a line is refused: the refusal, with its layer, and the place in bytes, counted from 0. (It is 0 also where the refusal speaks
-// of no place, and no option: the C call packs that 0 and the programs print it.)
+// of no place, and no option: `walk` prints that 0.)
 #[derive(Clone, Copy, PartialEq, Eq, Debug)]
 pub struct LineFault {
     pub refusal: Refusal,

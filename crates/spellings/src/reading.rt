@@ -46,6 +46,7 @@ pub fn read_right(text: &[u8], spellings: &Spellings) -> Option<PricedRight>
         right = gather(right, &symbol, spellings);
         rest = behind;
     }
+    // (what stands behind the semicolon and its space, at which the loop ended; by `strip_prefix` it would be a loop without a test)
     let price = read_number(&rest[2..])?;
     Some(PricedRight { right, price })
 }

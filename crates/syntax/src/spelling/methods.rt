@@ -37,7 +37,8 @@ impl Literal {
 }
 
 impl Spelling {
-    // Whether the two spellings stand for the same, which is their `==`.
+    // Whether the two spellings stand for the same. (It is their `==`, and there for its clause: that of `==` says nothing of what spellings
+    // stand for.)
     pub fn same(&self, other: &Spelling) -> bool
         ensures yes { result ≡ true → spelling self.now ≡ spelling other.now }
         ensures no { result ≡ false → ¬ (spelling self.now ≡ spelling other.now) }

@@ -37,7 +37,8 @@ impl TextWriter<'_> {
         Ok(())
     }
 
-    // Writes the number in decimal.
+    // Writes the number in decimal. (digit by digit: the clause says which bytes a text gets that is too short, and of what a `write!`
+    // leaves that fails nothing is known)
     pub fn put_number(&mut self, n: u16) -> Result<(), FileRefusal>
         ensures { Writes self.old (decimal n) result self.new }
     {

@@ -13,5 +13,5 @@ pub returns-in_err-symbols : goal.returns-in_err-symbols
 returns-in_err-symbols c ss v g =
     let s = c.args.self.now in
     let p = err_from_is_err_and c.from_residual.result c.from_residual.ensures.1 in
-    subst (λ (r : Result (Unit {0}) Refusal). Does (model s) (production_line c.args.left ss c.args.price) r (model s)) (sym (p.1 ∙ ap Err p.2))
-    (line_at_fault s ss c.args.left c.args.price c.in_err-symbols.field-0.0 c.requires v (subst (Gathers (words s.spellings) ss) c.in_err-symbols.was g))
+    subst (λ (r : Result (Unit {0}) Refusal). Does (model s) (production_line c.args.left ss c.args.priced.price) r (model s)) (sym (p.1 ∙ ap Err p.2))
+    (line_at_fault s ss c.args.left c.args.priced.price c.in_err-symbols.field-0.0 c.requires v (subst (Gathers (words s.spellings) ss) c.in_err-symbols.was g))
