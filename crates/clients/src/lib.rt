@@ -90,7 +90,7 @@ pub fn or_and_listed(
     list_words(grammar, &OR_AND, chart, records)
 }
 
-// Answers the smallest price of NAME "or" NAME "and" NAME.
+// Answers the smallest price of NAME "or" NAME "and" NAME. (Not one function with the next: each is an example with a value of its own.)
 pub fn or_and_priced(
     grammar: &Grammar,
     chart: &mut [u64],

@@ -22,8 +22,8 @@ fn pack(number: u8, more: usize) -> u32
     u32::from(number) + 256 * more as u32
 }
 
-// Writes the records over the first bytes of the output. (Written by index: of what is written through an adapter of `iter_mut` a
-// proof knows nothing.)
+// Writes the records over the first bytes of the output. (By index, byte by byte: of what is written through an adapter of `iter_mut` a
+// proof knows nothing, and a part that is lent to a copy would have to be shown to come back into the output as it was.)
 fn write_records(records: &[Record], output: &mut [u8])
     requires { 3 * length records.now ≤ length output.old }
     ensures { output.new ≡ written records.now output.old }
