@@ -1,1 +1,5 @@
-mod Counting
+mod Buffering
+mod Cutting
+mod Parts
+mod Putting
+mod Verdicts

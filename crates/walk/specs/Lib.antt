@@ -1,1 +1,3 @@
-pub mod Lines
+pub mod Buffers
+pub mod Sessions
+pub mod Verdicts

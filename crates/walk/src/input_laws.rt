@@ -1,0 +1,12 @@
+ghost use Rattle.walk.specs.Sessions.{PartsJoin};
+ghost use Rattle.walk.specs.Verdicts.{JudgedByKept};
+
+// Where the input is cut into parts makes no difference.
+pub(crate) fn parts_join()
+    ensures { PartsJoin }
+{}
+
+// A line is judged by the bytes that are kept of it as it is by all.
+pub(crate) fn kept_bytes_suffice()
+    ensures { JudgedByKept }
+{}
