@@ -1,14 +1,16 @@
 -- Parts of the input, taken line by line. Assumes nothing.
-use Rattle.std.proofs.Common.{◌≡◌, ℕ, ◌+◌, ◌-◌, List, [], ◌∷◌, ◌++◌, length, take, drop, Some, None, Bor, sym, refl, ap, ◌∙◌, subst, arith}
+use Rattle.std.proofs.Common.{◌≡◌, ℕ, ◌-◌, List, [], ◌∷◌, ◌++◌, length, Some, None, Bor, Option, sym, refl, ap, ◌∙◌, arith, append-nil, inr, subst}
 use native.Mathlib.Decide.{dec_lt}
-use Rattle.std.proofs.lemmas.List.{append_assoc, length_push, length-append, get_or_append_left, get_or-append_right}
+use Rattle.std.proofs.lemmas.List.{append_assoc, length-append, take_all, length-take, get_or_append_left, get_or-append_right}
 use Rattle.syntax.specs.Free.{FreeOf}
-use Rattle.file_model.specs.Files.{LineOf}
+use Rattle.std.specs.Io.KnownBytes.{Appends}
 use Rattle.walk.specs.declared.session.Session.{Session}
 use Rattle.walk.specs.declared.scores.LineReport.{LineReport}
 use Rattle.walk.specs.Buffers.{held, kept, TakesOn}
-use Rattle.walk.specs.Sessions.{EndsLine, Gathers, TakesPart, gathered, line_ended, Took, PartsJoin}
+use Rattle.walk.specs.Sessions.{Reported, Finished, Gathers, TakesPart, gathered, line_ended, Took, PartsJoin, written}
+use Rattle.walk.specs.Verdicts.{line_report}
 use Rattle.walk.proofs.Buffering.{kept_again}
+use Rattle.walk.proofs.Writing.{none_appended, both_appended}
 
 -- nothing but the buffer differs
 pub record SameButBuffer (s t : Session) : Type 0 where
@@ -23,16 +25,21 @@ module _ (s t : Session) (part : List ℕ) (same : SameButBuffer s t) where
 
   -- a line ends in the part
   pub took_line :
-      (u v : Session) (r : LineReport) (rest : Bor (List ℕ)) →
+      (u v : Session) (rest : Bor (List ℕ)) (a b c : Option (List ℕ)) →
       TakesOn (held s.buffer) part (Some rest) (held t.buffer) →
-      EndsLine t r u →
-      Took u rest.now v →
-      Took s part v
-  took_line u v r rest (line, l, bytes) ends (rs, h) = (r ∷ rs, line_ended l (gathers line bytes) ends h)
+      Reported t u a b →
+      Took u rest.now v b c →
+      Took s part v a c
+  took_line u v rest a b c (line, l, bytes) (r, ends, out) (rs, h, more) =
+      (r ∷ rs, line_ended l (gathers line bytes) ends h, both_appended a b c (line_report r ++ 10 ∷ []) (written rs) out more)
 
   -- none does
-  pub took_rest : TakesOn (held s.buffer) part None (held t.buffer) → Took s part t
-  took_rest (free, bytes) = ([], gathered free (gathers part bytes))
+  pub took_rest : (a : Option (List ℕ)) → TakesOn (held s.buffer) part None (held t.buffer) → Took s part t a a
+  took_rest a (free, bytes) = ([], gathered free (gathers part bytes), none_appended a)
+
+-- bytes are left
+pub finished : (s t : Session) (a b : Option (List ℕ)) → (¬ (held s.buffer ≡ [])) → Reported s t a b → Finished s t a b
+finished s t a b some (r, ends, out) = (r ∷ [], inr (some, (r, refl, ends)), subst (Appends a b) (sym (append-nil (line_report r ++ 10 ∷ []))) out)
 
 -- neither of two texts has the byte
 free_both : (b : ℕ) (xs ys : List ℕ) → FreeOf b xs → FreeOf b ys → FreeOf b (xs ++ ys)
@@ -67,3 +74,15 @@ parts_join s t u part more rs qs (gathered f g) h = rest_join part more qs f g h
 parts_join s t u part more rs qs (line_ended {line = line} {rest = rest} l g e h) k =
     line_ended (record { free = l.free; is = ap (λ (x : List ℕ). x ++ more) l.is ∙ append_assoc line (10 ∷ rest) more }) g e
     (parts_join _ _ _ _ _ _ _ h k)
+
+-- no part yet
+pub none_taken : (s : Session) → TakesPart s [] [] s
+none_taken s =
+    gathered (λ k l e. omega (arith, l))
+    (record {
+      bytes = sym (ap kept (append-nil (held s.buffer)) ∙ take_all 16385 (held s.buffer) (let l = length-take s.buffer.count s.buffer.bytes in let f = s.buffer.few in omega (arith, l, f)));
+      grammar = refl;
+      spellings = refl;
+      chart = refl;
+      count = refl;
+    })

@@ -1,5 +1,5 @@
 -- What putting a line keeps of a reading. Assumes nothing.
-use Rattle.std.proofs.Common.{◌≡◌, ℕ, List, length, Ok, Err, Result, sym, refl, ◌∙◌, subst, arith}
+use Rattle.std.proofs.Common.{◌≡◌, ℕ, List, length, Ok, Err, Result, refl, ◌∙◌, arith}
 use Rattle.syntax.specs.Syntax.{Spelling}
 use Rattle.grammar.specs.declared.refusals.ReadingRefusal.{ReadingRefusal}
 use Rattle.draft.specs.declared.sealed.Grammar.{Grammar as Sealed}

@@ -1,6 +1,6 @@
 ghost use Rattle.std.specs.Prelude.{◌≡◌, OnOk};
 ghost use Rattle.files.specs.Model.{model};
-ghost use Rattle.walk.specs.Sessions.{Starts, EndsLine, Took, Finishes};
+ghost use Rattle.walk.specs.Sessions.{Starts, EndsLine, Reported, Took, Finished};
 
 use super::Session;
 use crate::judging::verdict_of;
@@ -54,27 +54,33 @@ impl Session {
         }
     }
 
+    // Ends the line that is being read, and writes what it is.
+    fn report_line<W: io::Write>(&mut self, out: &mut W) -> io::Result<()>
+        ensures { OnOk result (Reported self.old self.new (W.contents out.old) (W.contents out.new)) }
+    {
+        let report = self.end_line();
+        writeln!(out, "{report}")
+    }
+
     // Takes a part of the input, and writes what each line is that ends in it.
     pub(crate) fn take<W: io::Write>(&mut self, part: &[u8], out: &mut W) -> io::Result<()>
-        ensures { OnOk result (Took self.old part.now self.new) }
+        ensures { OnOk result (Took self.old part.now self.new (W.contents out.old) (W.contents out.new)) }
     {
         // (by what is left of the part: the buffer takes the rest only when the line before it has ended)
         let mut rest = part;
         while let Some(behind) = self.buffer.take(rest) {
             rest = behind;
-            let report = self.end_line();
-            writeln!(out, "{report}")?;
+            self.report_line(out)?;
         }
         Ok(())
     }
 
     // Ends the input: bytes behind the last line feed are a line.
     pub(crate) fn finish<W: io::Write>(&mut self, out: &mut W) -> io::Result<()>
-        ensures { OnOk result (Finishes self.old self.new) }
+        ensures { OnOk result (Finished self.old self.new (W.contents out.old) (W.contents out.new)) }
     {
         if !self.buffer.line().is_empty() {
-            let report = self.end_line();
-            writeln!(out, "{report}")?;
+            self.report_line(out)?;
         }
         Ok(())
     }
