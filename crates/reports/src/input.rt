@@ -1,9 +1,10 @@
 ghost use Rattle.std.specs.Prelude.{◌≡◌, IfOk};
-ghost use Rattle.reports.specs.Reports.{Opened};
+ghost use Rattle.reports.specs.Reports.{Printed};
 
 use crate::summary::read_book;
 use files::spelled::SpelledDraft;
 use std::io;
+use std::io::Write;
 
 // The name of the grammar file.
 pub const BOOK: &str = "book.rbk";
@@ -18,18 +19,18 @@ pub fn reported<T>(rt: &HostRuntime, name: &str, read: io::Result<T>) -> io::Res
     read
 }
 
-// Reads the text as a grammar file, and prints what it is; none where it is refused.
-pub fn print_book(rt: &HostRuntime, text: &[u8]) -> io::Result<Option<SpelledDraft>>
-    ensures { IfOk result (Opened text.now) }
+// Reads the text as a grammar file, and writes what it is; none where it is refused.
+pub fn print_book<W: io::Write>(out: &mut W, text: &[u8]) -> io::Result<Option<SpelledDraft>>
+    ensures { IfOk result (λ book. Printed text.now book (W.contents out.old) (W.contents out.new)) }
 {
     let mut book = SpelledDraft::new();
     match read_book(&mut book, text) {
         Ok(summary) => {
-            println!(rt; "{summary}")?;
+            writeln!(out, "{summary}")?;
             Ok(Some(book))
         }
         Err(fault) => {
-            println!(rt; "{fault}")?;
+            writeln!(out, "{fault}")?;
             Ok(None)
         }
     }

@@ -1,1 +1,5 @@
-pub mod Lines
+pub mod Buffers
+pub mod Counts
+pub mod Outputs
+pub mod Sessions
+pub mod Verdicts

@@ -1,27 +1,23 @@
-//! Reads the grammar file `book.rbk` in the current folder and lines from standard input, and prints how much each has.
+//! Reads the grammar file `book.rbk` in the current folder and lines from standard input, and prints what each line is.
 
 #![tactic(auto)]
 
-mod lines;
+mod input;
+mod input_laws;
+mod judging;
+mod line_buffer;
+mod score_tables;
+mod scores;
+mod session;
 
-use lines::count_lines;
-use reports::input::{BOOK, print_book, reported};
-use std::io::Read;
+use input::walk;
+use reports::input::{BOOK, reported};
+use std::io::{BufWriter, Write};
 use std::{fs, io};
-
-// All that standard input has. (No clause can say what that is.)
-fn read_input(rt: &HostRuntime) -> io::Result<Vec<u8>> {
-    let mut input = Vec::new(rt.alloc());
-    rt.stdin().read_to_end(&mut input)?;
-    Ok(input)
-}
 
 fn main(rt: HostRuntime) -> io::Result<()> {
     let text = reported(&rt, BOOK, fs::read(&rt, BOOK))?;
-    let Some(_) = print_book(&rt, text.as_slice())? else {
-        return Ok(());
-    };
-    let input = reported(&rt, "standard input", read_input(&rt))?;
-    let count = count_lines(input.as_slice());
-    println!(rt; "lines {count}")
+    let mut out = BufWriter::new(rt.alloc(), rt.stdout())?;
+    walk(&rt, text.as_slice(), &mut rt.stdin(), &mut out)?;
+    out.flush()
 }

@@ -1,5 +1,0 @@
-mod Buffering
-mod Cutting
-mod Parts
-mod Putting
-mod Verdicts
