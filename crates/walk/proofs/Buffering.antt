@@ -18,28 +18,6 @@ module _ {A : Type 0} (n : ℕ) where
             take-append-le n (take n xs) ys (omega arith) ∙ take-take n n xs (omega arith) ∙ sym (take-append-le n xs ys m)
       ]
 
-  -- bytes more, as many as there is room for
-  pub extended :
-      (xs more rest : List A) (i size : ℕ) →
-      length xs ≡ n →
-      i ≤ n →
-      size ≡ min (length more) (n - i) →
-      take (i + size) (take i xs ++ (take size more ++ rest)) ≡ take n (take i xs ++ more)
-  extended xs more rest i size e l s =
-      let a = length-take-le i xs (omega arith) in
-      let b = length-take-le size more (omega arith) in
-      let front : i ≡ length (take i xs) = omega arith in
-      let all : n ≡ length (take i xs) + (n - i) = omega arith in
-      let same : take size more ≡ take (n - i) more =
-      elim (dec_lt (length more) (n - i)) [
-        | yes k ↦ take_all size more (omega arith) ∙ sym (take_all (n - i) more (omega arith))
-        | no k ↦ let z : size ≡ n - i = omega arith in ap (λ m. take m more) z
-      ] in
-      ap (λ k. take (k + size) (take i xs ++ (take size more ++ rest))) front
-      ∙ take-append-add (take i xs) (take size more ++ rest) size
-      ∙ ap (λ t. take i xs ++ t) (take_at (take size more) rest size b ∙ same)
-      ∙ sym (ap (λ k. take k (take i xs ++ more)) all ∙ take-append-add (take i xs) more (n - i))
-
 -- none of the first bytes is the byte
 abbrev pub FreeBefore : ℕ → List ℕ → ℕ → Type 0
 FreeBefore byte part i = (k : ℕ) → k < i → ¬ (get_or part k 0 ≡ byte)

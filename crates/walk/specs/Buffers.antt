@@ -3,11 +3,12 @@ use Rattle.std.specs.Prelude.{◌≡◌, ℕ, List, ◌++◌, take, Some, None, 
 use Rattle.std.specs.Borrow.{Bor}
 use Rattle.syntax.specs.Free.{FreeOf}
 use Rattle.file_model.specs.Files.{LineOf}
+use Rattle.grammar.specs.Bytes.{items}
 use Rattle.walk.specs.declared.line_buffer.LineBuffer.{LineBuffer}
 
 -- the bytes that a buffer holds
 abbrev pub held : LineBuffer → List ℕ
-held b = take b.count b.bytes
+held b = items b.bytes
 
 -- what is kept of a line: its first 16,385 bytes
 abbrev pub kept : List ℕ → List ℕ

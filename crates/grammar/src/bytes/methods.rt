@@ -1,4 +1,4 @@
-ghost use Rattle.std.specs.Prelude.{◌≡◌, ◌<◌, ◌≤◌, ◌↔◌, [], ◌∷◌, ◌++◌, length, nat_eq, IsTrue, MatchOption};
+ghost use Rattle.std.specs.Prelude.{◌≡◌, ◌<◌, ◌≤◌, ◌↔◌, [], ◌∷◌, ◌++◌, length, take, nat_eq, IsTrue, MatchOption};
 ghost use Rattle.std.specs.Cmp.{on_equiv, on_per, partial_equiv_from_equiv};
 ghost use Rattle.std.specs.Cmp.Lexicographic.{pointwise, nat_list_eq_equiv};
 ghost use Rattle.grammar.specs.Bytes.{items};
@@ -60,6 +60,17 @@ impl<const N: usize> Bytes<N> {
     {
         self.bytes[self.count] = byte;
         self.count += 1;
+    }
+
+    // More bytes, at the end, as many as there is room for.
+    pub fn extend(&mut self, more: &[u8])
+        ensures { items self.new ≡ take N (items self.old ++ more.now) }
+    {
+        let at = self.count;
+        let size = more.len().min(N - at);
+        let bytes = &mut self.bytes[..];
+        bytes[at..at + size].copy_from_slice(&more[..size]);
+        self.count = at + size;
     }
 
     // Takes the last byte away; none where there is none.

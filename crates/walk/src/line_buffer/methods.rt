@@ -1,7 +1,8 @@
-ghost use Rattle.std.specs.Prelude.{◌≡◌, [], ◌++◌};
-ghost use Rattle.walk.specs.Buffers.{held, kept, TakesOn};
+ghost use Rattle.std.specs.Prelude.{◌≡◌, []};
+ghost use Rattle.walk.specs.Buffers.{held, TakesOn};
 
 use super::LineBuffer;
+use grammar::bytes::Bytes;
 use syntax::reading::cut_at;
 
 impl LineBuffer {
@@ -10,8 +11,7 @@ impl LineBuffer {
         ensures { held result ≡ [] }
     {
         LineBuffer {
-            bytes: [0; 16385],
-            count: 0,
+            bytes: Bytes::empty(),
         }
     }
 
@@ -19,24 +19,14 @@ impl LineBuffer {
     pub(crate) fn line(&self) -> &[u8]
         ensures { result.now ≡ held self.now }
     {
-        &self.bytes[..self.count]
+        self.bytes.as_slice()
     }
 
     // Forgets the bytes.
     pub(crate) fn clear(&mut self)
         ensures { held self.new ≡ [] }
     {
-        self.count = 0;
-    }
-
-    // Takes bytes of the line, and keeps as many as there is room for.
-    fn extend(&mut self, more: &[u8])
-        ensures { held self.new ≡ kept (held self.old ++ more.now) }
-    {
-        let size = more.len().min(16385 - self.count);
-        let end = self.count + size;
-        self.bytes[self.count..end].copy_from_slice(&more[..size]);
-        self.count = end;
+        self.bytes.clear();
     }
 
     // Takes bytes of the line up to a line feed. Where one comes the line ends, and the answer is the rest of the part, behind it.
@@ -44,10 +34,10 @@ impl LineBuffer {
         ensures { TakesOn (held self.old) part.now result (held self.new) }
     {
         let Some((line, rest)) = cut_at(part, b'\n') else {
-            self.extend(part);
+            self.bytes.extend(part);
             return None;
         };
-        self.extend(line);
+        self.bytes.extend(line);
         Some(rest)
     }
 }

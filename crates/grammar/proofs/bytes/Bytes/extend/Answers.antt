@@ -1,10 +1,10 @@
 use Rattle.std.proofs.Common.{ℕ, ◌+◌, ◌-◌, List, ◌++◌, take, drop, ap, ◌∙◌}
-use Rattle.walk.proofs.Buffering.{extended}
-use Rattle.walk.proofs.line_buffer.LineBuffer.extend.Goals as goal
+use Rattle.grammar.proofs.Extending.{extended}
+use Rattle.grammar.proofs.bytes.Bytes.extend.Goals as goal
 
 pub returns : goal.returns
-returns c =
+returns g c =
     let b = c.args.self.now in
     let size = c.min-size.result in
     ap (λ (ys : List ℕ). take (b.count + size) (take b.count b.bytes ++ (ys ++ drop (b.count + size - b.count) (drop b.count b.bytes)))) c.copy_from_slice.ensures.after
-    ∙ extended 16385 b.bytes c.args.more.now _ b.count size b.room b.few c.min-size.ensures
+    ∙ extended g.row.N b.bytes c.args.more.now _ b.count size b.whole b.few c.min-size.ensures
