@@ -80,7 +80,7 @@ pub none_taken : (s : Session) → TakesPart s [] [] s
 none_taken s =
     gathered (λ k l e. omega (arith, l))
     (record {
-      bytes = sym (ap kept (append-nil (held s.buffer)) ∙ take_all 16385 (held s.buffer) (let l = length-take s.buffer.bytes.count s.buffer.bytes in let f = s.buffer.few in omega (arith, l, f)));
+      bytes = sym (ap kept (append-nil (held s.buffer)) ∙ take_all 16385 (held s.buffer) (let l = length-take s.buffer.bytes.count s.buffer.bytes.bytes in let f = s.buffer.bytes.few in omega (arith, l, f)));
       grammar = refl;
       spellings = refl;
       chart = refl;

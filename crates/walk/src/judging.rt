@@ -28,6 +28,7 @@ fn judge_words(reading: &Reading, tables: &mut ScoreTables, end: usize) -> Resul
 }
 
 // What the line is, read by the grammar and the spellings of its kinds.
+#[tactic(auto, using(crate::proofs::Putting::judged_put, crate::proofs::Putting::judged_refused))]
 pub(crate) fn verdict_of(
     grammar: &Grammar,
     spellings: &Spellings,
