@@ -1,4 +1,4 @@
-ghost use Rattle.std.specs.Prelude.{◌<◌, OnSome};
+ghost use Rattle.std.specs.Prelude.{◌<◌, length, OnSome};
 
 use crate::conflicts::Conflicts;
 use crate::position::Position;
@@ -9,31 +9,71 @@ use spellings::spellings::Spellings;
 use std::alloc::{AllocError, Global};
 use std::collections::HashMap;
 
-// A draft with its spellings, for each position the productions that may stand there, and for each production that has
-// a conflict-free tree the fewest words of one. Productions go by their numbers.
+// For each position the productions that may stand there.
+type Children = HashMap<Position, Vec<u8>>;
+
+// A draft with its spellings, for each position the productions that may stand there, the productions of the start
+// symbol, and for each production that has a conflict-free tree the fewest words of one. Productions go by their numbers.
 #[derive(Drop)]
 pub struct Book {
     draft: Draft,
     spellings: Spellings,
-    children: HashMap<Position, Vec<u8>>,
+    children: Children,
+    roots: Vec<u8>,
     fewest: HashMap<u8, usize>,
 }
 
-// The productions that may stand at a position of a parent with this many symbols on the right, which holds the symbol.
+// The productions of a nonterminal.
+fn productions_of(heap: Global, draft: &Draft, nonterminal: u8) -> Result<Vec<u8>, AllocError> {
+    (1..=32)
+        .zip(draft.productions())
+        .filter(|(_, production)| production.left() == nonterminal)
+        .map(|(number, _)| number)
+        .collect(heap)
+}
+
+// The productions that may stand at a position of a parent with this right side.
 fn children_at(
     heap: Global,
     draft: &Draft,
     conflicts: &Conflicts,
     at: Position,
-    size: usize,
-    symbol: u8,
-) -> Result<Vec<u8>, AllocError> {
-    (1..=32)
-        .zip(draft.productions())
-        .filter(|(_, production)| production.left() == symbol)
-        .map(|(number, _)| number)
-        .filter(|number| !conflicts.forbid(at, size, *number))
-        .collect(heap)
+    right: &[u8],
+) -> Result<Vec<u8>, AllocError>
+    requires { at.index < length right.now }
+{
+    let mut children = productions_of(heap, draft, right[at.index])?;
+    children.retain(|child| !conflicts.forbid(at, right.len(), *child));
+    Ok(children)
+}
+
+// The productions that may stand at the positions of the production, which has this right side.
+fn children_below(
+    heap: Global,
+    draft: &Draft,
+    conflicts: &Conflicts,
+    production: u8,
+    right: &[u8],
+) -> Result<Children, AllocError> {
+    let mut children = HashMap::new(heap);
+    for index in 0..right.len() {
+        let at = Position { production, index };
+        children.insert(at, children_at(heap, draft, conflicts, at, right)?)?;
+    }
+    Ok(children)
+}
+
+// The productions that may stand at the positions of all productions.
+fn children_of_all(
+    heap: Global,
+    draft: &Draft,
+    conflicts: &Conflicts,
+) -> Result<Children, AllocError> {
+    let mut children = HashMap::new(heap);
+    for (production, parent) in (1..=32).zip(draft.productions()) {
+        children.extend(children_below(heap, draft, conflicts, production, parent.right())?)?;
+    }
+    Ok(children)
 }
 
 impl Book {
@@ -42,55 +82,29 @@ impl Book {
     pub(crate) fn new(heap: Global, spelled: SpelledDraft) -> Result<Book, AllocError> {
         let SpelledDraft { draft, spellings } = spelled;
         let conflicts = Conflicts::new(heap, &draft)?;
+        let children = children_of_all(heap, &draft, &conflicts)?;
+        let roots = productions_of(heap, &draft, draft.start())?;
         let mut book = Book {
             draft,
             spellings,
-            children: HashMap::new(heap),
+            children,
+            roots,
             fewest: HashMap::new(heap),
         };
-        book.add_children(heap, &conflicts)?;
         for _ in 0..32 {
-            book.take_in()?;
+            book.fewest = book.fewest_of_all(heap)?;
         }
         Ok(book)
     }
 
-    // Adds what may stand at the positions of the productions.
-    fn add_children(&mut self, heap: Global, conflicts: &Conflicts) -> Result<(), AllocError> {
-        // (by number: the draft can't be lent while the book changes)
-        for number in 1..=32 {
-            if let Some(parent) = self.production(number) {
-                self.add_children_of(heap, conflicts, number, parent.right())?;
-            }
-        }
-        Ok(())
-    }
-
-    // Adds what may stand at the positions of the production, which has the symbols on the right.
-    fn add_children_of(
-        &mut self,
-        heap: Global,
-        conflicts: &Conflicts,
-        production: u8,
-        right: &[u8],
-    ) -> Result<(), AllocError> {
-        for (index, symbol) in right.iter().enumerate() {
-            let at = Position { production, index };
-            let children = children_at(heap, &self.draft, conflicts, at, right.len(), *symbol)?;
-            self.children.insert(at, children)?;
-        }
-        Ok(())
-    }
-
-    // Takes in the trees with one level more.
-    fn take_in(&mut self) -> Result<(), AllocError> {
-        // (by number: the draft can't be lent while the book changes)
-        for production in 1..=32 {
-            if let Some(fewest) = self.fewest_from(Position::first(production)) {
-                self.fewest.insert(production, fewest)?;
-            }
-        }
-        Ok(())
+    // What `fewest` is with the trees of one level more taken in.
+    fn fewest_of_all(&self, heap: Global) -> Result<HashMap<u8, usize>, AllocError> {
+        (1..=32)
+            .filter_map(|production| {
+                let fewest = self.fewest_from(Position::first(production))?;
+                Some((production, fewest))
+            })
+            .collect(heap)
     }
 
     // What its kinds are spelled like.
@@ -108,17 +122,15 @@ impl Book {
         self.draft.production(usize::from(number))
     }
 
-    // Whether the production is one of the start symbol.
-    pub(crate) fn is_root(&self, number: u8) -> bool {
-        let start = self.draft.start();
-        self.production(number)
-            .is_some_and(|production| production.left() == start)
+    // The productions of the start symbol.
+    pub(crate) fn roots(&self) -> &[u8] {
+        self.roots.as_slice()
     }
 
-    // The price of a production.
-    pub(crate) fn price(&self, number: u8) -> u32 {
-        self.production(number)
-            .map_or(0, |production| u32::from(production.price()))
+    // The price of the production of a number.
+    pub(crate) fn price(&self, number: u8) -> Option<u32> {
+        let production = self.production(number)?;
+        Some(u32::from(production.price()))
     }
 
     // The symbol at a position.
@@ -152,12 +164,15 @@ impl Book {
     pub(crate) fn fewest_from(&self, at: Position) -> Option<usize> {
         let production = at.production;
         let parent = self.production(production)?;
-        let mut sum = 0usize;
-        // (a loop: a symbol over which no tree can stand ends it)
-        for (index, symbol) in parent.right().iter().enumerate().skip(at.index) {
-            sum = sum.saturating_add(self.fewest_at(Position { production, index }, *symbol)?);
-        }
-        Some(sum)
+        parent
+            .right()
+            .iter()
+            .enumerate()
+            .skip(at.index)
+            .try_fold(0usize, |sum, (index, symbol)| {
+                let fewest = self.fewest_at(Position { production, index }, *symbol)?;
+                Some(sum.saturating_add(fewest))
+            })
     }
 
     // Whether trees can stand at the position and behind it.

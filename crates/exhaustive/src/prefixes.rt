@@ -16,6 +16,8 @@ struct Trial<'f, 'b> {
     tried: HashSet<(u8, usize)>,
 }
 
+// (position, span and steps go apart: each call in the cycle changes one of them at least, and would rebuild a struct of
+// the three)
 impl<'f, 'b> Trial<'f, 'b> {
     // Whether the words of the span begin the words of a tree of the production. Where the production is being tried at
     // this place, or was tried in vain, a second try finds nothing new.
@@ -87,8 +89,8 @@ pub(crate) fn some_begins(heap: Global, forest: &mut Forest) -> Result<bool, All
         forest,
         tried: HashSet::new(heap),
     };
-    for root in (1..=32).filter(|number| book.is_root(*number)) {
-        if trial.begins(root, span, STEPS)? {
+    for root in book.roots() {
+        if trial.begins(*root, span, STEPS)? {
             return Ok(true);
         }
     }

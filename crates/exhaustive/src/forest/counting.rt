@@ -10,6 +10,8 @@ use std::alloc::AllocError;
 // at most once. At a node the count passes at most six symbols before it goes down. A line has at most 48 words.
 const STEPS: u32 = 7 * 16 * 49;
 
+// (position, span and steps go apart: each call in the cycle changes one of them at least, and would rebuild a struct of
+// the three)
 impl<'b> Forest<'b> {
     // The trees of the production over the span.
     #[cycle(trees)]
@@ -63,7 +65,10 @@ impl<'b> Forest<'b> {
             return Ok(Trees::NONE);
         }
         match self.book.symbol(at) {
-            None if span.from == span.to => Ok(Trees::one(self.book.price(at.production))),
+            None if span.from == span.to => {
+                let price = self.book.price(at.production);
+                Ok(price.map_or(Trees::NONE, Trees::one))
+            }
             None => Ok(Trees::NONE),
             Some(nonterminal) if nonterminal < 16 => self.trees_split(at, span, steps - 1),
             Some(kind) if span.from < span.to && self.has(span.from, kind) => {
@@ -84,8 +89,8 @@ impl<'b> Forest<'b> {
         let book = self.book;
         let span = self.span();
         let mut all = Trees::NONE;
-        for root in (1..=32).filter(|number| book.is_root(*number)) {
-            all = all.or(self.trees_of(root, span, STEPS)?);
+        for root in book.roots() {
+            all = all.or(self.trees_of(*root, span, STEPS)?);
         }
         Ok(all)
     }
