@@ -13,10 +13,9 @@ pub const BOOK: &str = "book.rbk";
 pub fn reported<T>(rt: &HostRuntime, name: &str, read: io::Result<T>) -> io::Result<T>
     ensures { result ≡ read }
 {
-    if let Err(error) = &read {
+    read.inspect_err(|error| {
         let _ = eprintln!(rt; "{name} can't be read: {error}");
-    }
-    read
+    })
 }
 
 // Reads the text as a grammar file, and writes what it is; none where it is refused.

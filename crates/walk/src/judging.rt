@@ -27,7 +27,8 @@ fn judge_words(reading: &Reading, tables: &mut ScoreTables, end: usize) -> Resul
         .map_err(|refusal| LineFault::of_words(refusal, 0))
 }
 
-// What the line is, read by the grammar and the spellings of its kinds.
+// What the line is, read by the grammar and the spellings of its kinds. (The parts of a session one by one: a method of it would also
+// have to say what of the session stays.)
 #[tactic(auto, using(crate::proofs::Putting::judged_put, crate::proofs::Putting::judged_refused))]
 pub(crate) fn verdict_of(
     grammar: &Grammar,
