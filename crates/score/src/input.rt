@@ -1,4 +1,4 @@
-ghost use Rattle.std.specs.Prelude.{◌≡◌, ◌≤◌, length};
+ghost use Rattle.std.specs.Prelude.{◌≤◌, length};
 ghost use Rattle.grammar.specs.Grammar.{places};
 ghost use Rattle.grammar.specs.Model.{productions as productions_of};
 ghost use Rattle.derivations.specs.Ranges.{Lefts};
@@ -23,6 +23,5 @@ pub(crate) struct Input<'a> {
     ghost small: { places (productions_of productions.now) ≤ 128 },
     ghost lefts: { Lefts (productions_of productions.now) },
     ghost firsts: { Firsts (productions_of productions.now) tables.now.first },
-    ghost whole: { length tails ≡ 32 },
     ghost ends: { ∥ Tails (productions_of productions.now) tails ∥₁ },
 }

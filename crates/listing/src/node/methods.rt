@@ -45,8 +45,7 @@ impl<'a> Node<'a> {
 
     // The rows of the node: for each position of its right side where the symbols from there on can begin.
     pub(crate) fn rows(&self) -> [u64; 7]
-        ensures whole { length result ≡ 7 }
-        ensures rows { RowsFrom self.now 0 result }
+        ensures { RowsFrom self.now 0 result }
     {
         let mut rows = [0; 7];
         let size = self.right().len();
