@@ -72,7 +72,7 @@ impl<'a, 's, S: Semiring> Sums<'a, 's, S> {
         ensures kept { Kept self.old self.new }
         ensures fills { Fills S.Semiring.scale self.old.input.now self.old.table.now self.new.table.now (stage len 0 0 0 0) (stage (len + 1) 0 0 0 0) }
     {
-        for start in 0..self.input.words.len() - len + 1 {
+        for start in 0..=self.input.words.len() - len {
             let end = start + len;
             self.fill_span(Span { start, end });
         }
@@ -94,7 +94,7 @@ impl<'a, 's, S: Semiring> Sums<'a, 's, S> {
         ensures right { AllRight S.Semiring.scale self.old.input.now self.old.table.now self.new.table.now }
     {
         self.clear();
-        for len in 0..self.input.words.len() + 1 {
+        for len in 0..=self.input.words.len() {
             self.fill_length(len);
         }
     }
