@@ -1,6 +1,6 @@
 -- The stages of the entries: no two entries share one, and which stages have none.
 use Rattle.std.proofs.Common.{◌≡◌, ℕ, ◌+◌, ◌-◌, ◌*◌, ◌<◌, ◌≤◌, List, length, ap, subst, ⊎_elim, arith}
-use Rattle.std.proofs.lemmas.Bool.{cases_eq, cases_lt, cases_order}
+use Rattle.std.proofs.lemmas.Bool.{cases_eq, cases_lt}
 use Rattle.grammar.specs.Grammar.{Rule, right_at}
 use Rattle.scales.specs.Scales.{Scale}
 use Rattle.score.specs.Inputs.{productions_in, words_in, Inside, level_in, stage, stage_in, Given}

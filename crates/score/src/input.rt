@@ -11,7 +11,8 @@ use tables::tables::Tables;
 mod methods;
 
 // What the sums are taken over, with the position in each right side from which on every symbol may be empty. The sizes are
-// in range, and the tables place the productions as they stand.
+// in range, and the tables place the productions as they stand. (Not listing's `Sources`: those hold a chart, and less is known of
+// them.)
 #[derive(Clone, Copy)]
 pub(crate) struct Input<'a> {
     pub(crate) tables: &'a Tables,

@@ -8,7 +8,8 @@ use grammar::production::place_count;
 use scales::Semiring;
 
 impl<'a, 's, S: Semiring> Sums<'a, 's, S> {
-    // Fills in the entry, if it is of the level.
+    // Fills in the entry, if it is of the level. (A level is a plain number: only this function and the next two ask that it is below
+    // 18, and a struct of it would be made only for the one loop over the levels.)
     fn fill_entry(&mut self, level: u8, entry: Entry)
         requires inside { HasEntry self.old.input.now entry }
         requires low { level < 18 }
@@ -83,8 +84,8 @@ impl<'a, 's, S: Semiring> Sums<'a, 's, S> {
         ensures kept { Kept self.old self.new }
         ensures blank { Blank S.Semiring.scale (entries_in self.old.input.now) self.old.table.now self.new.table.now }
     {
-        let wide = self.input.words.len() + 1;
-        let count = place_count(self.input.productions) * (wide * wide);
+        let count = place_count(self.input.productions) * self.input.per_place();
+        // Not by `fill`: it asks that a clone never fails, and `Copy` does not say so.
         self.table[..count].fill_with(|| S::none());
     }
 
