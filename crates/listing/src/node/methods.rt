@@ -24,7 +24,8 @@ impl<'a> Node<'a> {
         has(self.sources.cells, self.start, self.end, last)
     }
 
-    // The rank of the left side of its production, at most 16.
+    // The rank of the left side of its production, at most 16. (`list` asks nothing of left sides and ranks: a left side that is out
+    // of range has rank 0.)
     fn rank(&self) -> usize
         ensures { result ≡ rank_in self.now.sources self.now.production }
     {
