@@ -8,7 +8,8 @@ use chart::Cells;
 use grammar::production::Production;
 use tables::tables::Tables;
 
-// The tables and the productions of a grammar, words, and the chart of the words.
+// The tables and the productions of a grammar, words, and the chart of the words. (Not score's `Input`: that has no chart, and of it
+// the sizes, the left sides and the first places are known besides.)
 #[derive(Clone, Copy)]
 pub(crate) struct Sources<'a> {
     pub(crate) tables: &'a Tables,

@@ -1,6 +1,6 @@
 -- The stages of the entries: no two entries share one, and which stages have none.
 use Rattle.std.proofs.Common.{◌≡◌, ℕ, ◌+◌, ◌-◌, ◌*◌, ◌<◌, ◌≤◌, List, length, ap, subst, ⊎_elim, arith}
-use Rattle.std.proofs.lemmas.Bool.{cases_eq, cases_lt, cases_order}
+use Rattle.std.proofs.lemmas.Bool.{cases_eq, cases_lt}
 use Rattle.grammar.specs.Grammar.{Rule, right_at}
 use Rattle.scales.specs.Scales.{Scale}
 use Rattle.score.specs.Inputs.{productions_in, words_in, Inside, level_in, stage, stage_in, Given}
@@ -101,17 +101,6 @@ module _ {S : Type 0} (s : Scale S) (x : Input) (start : ℕ) (rs : List Rule) (
       ⊎_elim (λ (t : stage_in x p k i j < stage a m 18 0 0). t)
       (λ (t : stage a m 18 0 0 ≤ stage_in x p k i j). absurd (omega arith))
       (cases_lt (stage_in x p k i j) (stage a m 18 0 0))
-
-  -- nor at origins past the last span of a length
-  pub skip_origins :
-      (a : ℕ) → a ≤ length (words_in x) → (p k i j : ℕ) → Inside x p k i j → i ≤ j → stage_in x p k i j < stage (a + 1) 0 0 0 0 →
-      stage_in x p k i j < stage a (length (words_in x) - a + 1) 0 0 0
-  skip_origins a la p k i j h lij less =
-      let b = bounds p k i j h in
-      let fw = x.few_words in
-      ⊎_elim (λ (e : j - i ≡ a). omega arith)
-      (⊎_elim (λ (t : j - i < a). omega arith) (λ (t : a < j - i). absurd (omega arith)))
-      (cases_order (j - i) a)
 
   -- every entry comes at some stage
   pub all_stages : (p k i j : ℕ) → Inside x p k i j → stage_in x p k i j < stage (length (words_in x) + 1) 0 0 0 0

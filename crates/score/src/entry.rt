@@ -9,8 +9,8 @@ pub(crate) struct Span {
 }
 
 // An entry of the table: the ways of the symbols of the production before the dot over the span. That the input has it stands in
-// each contract, as it does of a span, of a production's number and of a level alone (a value that held its input would have to be
-// shown to be one of these sums').
+// each contract, as it does of a span and of a production's number alone (a value that held its input would have to be shown to be
+// one of these sums').
 #[derive(Clone, Copy)]
 pub(crate) struct Entry {
     pub(crate) production: usize,

@@ -1,4 +1,4 @@
-ghost use Rattle.std.specs.Prelude.{◌≡◌, ◌≤◌, length};
+ghost use Rattle.std.specs.Prelude.{◌≤◌, length};
 ghost use Rattle.grammar.specs.Grammar.{places};
 ghost use Rattle.grammar.specs.Model.{productions as productions_of};
 ghost use Rattle.derivations.specs.Ranges.{Lefts};
@@ -11,7 +11,8 @@ use tables::tables::Tables;
 mod methods;
 
 // What the sums are taken over, with the position in each right side from which on every symbol may be empty. The sizes are
-// in range, and the tables place the productions as they stand.
+// in range, and the tables place the productions as they stand. (Not listing's `Sources`: those hold a chart, and less is known of
+// them.)
 #[derive(Clone, Copy)]
 pub(crate) struct Input<'a> {
     pub(crate) tables: &'a Tables,
@@ -23,6 +24,5 @@ pub(crate) struct Input<'a> {
     ghost small: { places (productions_of productions.now) ≤ 128 },
     ghost lefts: { Lefts (productions_of productions.now) },
     ghost firsts: { Firsts (productions_of productions.now) tables.now.first },
-    ghost whole: { length tails ≡ 32 },
     ghost ends: { ∥ Tails (productions_of productions.now) tails ∥₁ },
 }

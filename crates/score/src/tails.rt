@@ -1,4 +1,5 @@
 ghost use Rattle.std.specs.Prelude.{◌≡◌, ◌≤◌, length};
+ghost use Rattle.grammar.specs.Grammar.{right_at};
 ghost use Rattle.grammar.specs.Model.{productions as productions_of};
 ghost use Rattle.bitset.specs.Bits.{Has};
 ghost use Rattle.derivations.specs.Ranges.{Lefts};
@@ -19,18 +20,21 @@ fn tail(right: &[u8], set: u32) -> u8
         .map_or(0, |last| last as u8 + 1)
 }
 
+// The same for the right side of the production p, or 0 where there is none.
+fn tail_at(productions: &[Production], p: usize, set: u32) -> u8
+    ensures { Tail (Has set) (right_at (productions_of productions.now) p) result }
+{
+    productions
+        .get(p)
+        .map_or(0, |production| tail(production.right(), set))
+}
+
 // For each production the least position from which on every symbol may be empty.
 pub(crate) fn tails(productions: &[Production]) -> [u8; 32]
     requires few { length productions.now ≤ 32 }
     requires lefts { Lefts (productions_of productions.now) }
-    ensures whole { length result ≡ 32 }
-    ensures each { Tails (productions_of productions.now) result }
+    ensures { Tails (productions_of productions.now) result }
 {
     let empty = nullable(productions);
-    let mut tails = [0u8; 32];
-    // Written by index: of what is written through an adapter of `iter_mut` a proof knows nothing.
-    for (i, p) in productions.iter().enumerate() {
-        tails[i] = tail(p.right(), empty);
-    }
-    tails
+    std::array::from_fn(|p| tail_at(productions, p, empty))
 }

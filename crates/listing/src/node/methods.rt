@@ -24,7 +24,8 @@ impl<'a> Node<'a> {
         has(self.sources.cells, self.start, self.end, last)
     }
 
-    // The rank of the left side of its production, at most 16.
+    // The rank of the left side of its production, at most 16. (`list` asks nothing of left sides and ranks: a left side that is out
+    // of range has rank 0.)
     fn rank(&self) -> usize
         ensures { result ≡ rank_in self.now.sources self.now.production }
     {
@@ -45,8 +46,7 @@ impl<'a> Node<'a> {
 
     // The rows of the node: for each position of its right side where the symbols from there on can begin.
     pub(crate) fn rows(&self) -> [u64; 7]
-        ensures whole { length result ≡ 7 }
-        ensures rows { RowsFrom self.now 0 result }
+        ensures { RowsFrom self.now 0 result }
     {
         let mut rows = [0; 7];
         let size = self.right().len();

@@ -10,11 +10,14 @@ use bitset::contains;
 use chart::items::has;
 
 impl<'a> Slot<'a> {
-    // The number of the place, counted over all productions.
-    fn number(&self) -> usize
-        ensures { result ≡ first_of (tables_in self.now.node.sources) self.now.node.production + self.now.place }
+    // The number of the place, counted over all productions, if a chart has it. (`list` asks nothing of the tables' first places: a
+    // place that is out of range fits nothing and is never reached.)
+    fn number(&self) -> Option<usize>
+        ensures { MatchOption result (128 ≤ first_of (tables_in self.now.node.sources) self.now.node.production + self.now.place)
+            (λ n. (n ≡ first_of (tables_in self.now.node.sources) self.now.node.production + self.now.place) × (n < 128)) }
     {
-        self.node.sources.tables.first[self.node.production] as usize + self.place
+        let number = self.node.sources.tables.first[self.node.production] as usize + self.place;
+        (number < 128).then_some(number)
     }
 
     // The symbol at the place.
@@ -24,15 +27,14 @@ impl<'a> Slot<'a> {
         self.node.right()[self.place]
     }
 
-    // Whether by the tables the production q may stand at the place. (That q is a production's number stands here and in the contracts
-    // below: a number that held its sources would have to be shown to be one of these sources'.)
+    // Whether by the tables the production q may stand at the place. (That q is a production's number stands here, in the contracts
+    // below and at `Sources::root_of`: a number that held its sources would have to be shown to be one of these sources'.)
     fn fits(&self, q: usize) -> bool
         requires { q < (tables_in self.now.node.sources).count }
         ensures yes { result ≡ true → Fits self.now.node.sources self.now.node.production self.now.place q }
         ensures no { result ≡ false → ¬ Fits self.now.node.sources self.now.node.production self.now.place q }
     {
-        let number = self.number();
-        number < 128 && is_marked(&self.node.sources.tables.waits, q, number)
+        self.number().is_some_and(|number| is_marked(&self.node.sources.tables.waits, q, number))
     }
 
     // The node of the production q from `start` to `end`, if the chart has it whole, it ends where the symbols behind
@@ -60,6 +62,7 @@ impl<'a> Slot<'a> {
         ensures { MatchOption result (NoEnd self.now.node start self.now.next q)
             (λ n. IsNode n self.now.node.sources q start × FirstEnd self.now.node start self.now.next q n.end) }
     {
+        // Not `..=`: of a run over a closed range a proof would have to know besides that the range is not used up.
         (start..self.node.end + 1).find_map(|end| self.child(q, start, end))
     }
 
@@ -105,8 +108,9 @@ impl<'a> Slot<'a> {
         ensures yes { result ≡ true → Begun self.now.node.sources self.now.node.production self.now.place self.now.node.start end }
         ensures no { result ≡ false → ¬ Begun self.now.node.sources self.now.node.production self.now.place self.now.node.start end }
     {
-        let number = self.number();
-        number < 128 && has(self.node.sources.cells, self.node.start, end, number)
+        let node = self.node;
+        self.number()
+            .is_some_and(|number| has(node.sources.cells, node.start, end, number))
     }
 
     // Whether the position is in the row of the place.

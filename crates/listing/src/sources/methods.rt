@@ -5,7 +5,8 @@ use super::Sources;
 use crate::node::Node;
 
 impl<'a> Sources<'a> {
-    // The node of the production over all the words, if it is the root of a tree by the chart.
+    // The node of the production over all the words, if it is the root of a tree by the chart. (That its number is a production's is
+    // asked here as it is at `Slot::fits`.)
     fn root_of(&self, production: usize) -> Option<Node<'a>>
         requires { production < (tables_in self.now).count }
         ensures { MatchOption result (¬ Root self.now production)

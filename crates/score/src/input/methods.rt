@@ -1,5 +1,5 @@
-ghost use Rattle.std.specs.Prelude.{◌≡◌, ◌<◌, true, false, length};
-ghost use Rattle.score.specs.Inputs.{productions_in, HasEntry, place_in, index_in, WaitsIn, level_in};
+ghost use Rattle.std.specs.Prelude.{◌≡◌, ◌+◌, ◌*◌, ◌<◌, true, false, length};
+ghost use Rattle.score.specs.Inputs.{productions_in, words_in, HasEntry, place_in, index_in, WaitsIn, level_in};
 
 use super::Input;
 use crate::entry::Entry;
@@ -15,13 +15,21 @@ impl<'a> Input<'a> {
         self.tables.first[entry.production] as usize + entry.dot
     }
 
+    // How many entries a place has: one for each origin and end.
+    pub(crate) fn per_place(&self) -> usize
+        ensures { result ≡ (length (words_in self.now) + 1) * (length (words_in self.now) + 1) }
+    {
+        let wide = self.words.len() + 1;
+        wide * wide
+    }
+
     // The index of the entry in the table.
     pub(crate) fn index(&self, entry: Entry) -> usize
         requires inside { HasEntry self.now entry }
         ensures { result ≡ index_in self.now entry.production entry.dot entry.span.start entry.span.end }
     {
         let wide = self.words.len() + 1;
-        self.place(entry) * (wide * wide) + entry.span.start * wide + entry.span.end
+        self.place(entry) * self.per_place() + entry.span.start * wide + entry.span.end
     }
 
     // Whether the production q may stand behind the dot of the entry.

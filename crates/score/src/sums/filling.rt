@@ -8,7 +8,8 @@ use grammar::production::place_count;
 use scales::Semiring;
 
 impl<'a, 's, S: Semiring> Sums<'a, 's, S> {
-    // Fills in the entry, if it is of the level.
+    // Fills in the entry, if it is of the level. (A level is a plain number: only this function and the next two ask that it is below
+    // 18, and a struct of it would be made only for the one loop over the levels.)
     fn fill_entry(&mut self, level: u8, entry: Entry)
         requires inside { HasEntry self.old.input.now entry }
         requires low { level < 18 }
@@ -72,7 +73,7 @@ impl<'a, 's, S: Semiring> Sums<'a, 's, S> {
         ensures kept { Kept self.old self.new }
         ensures fills { Fills S.Semiring.scale self.old.input.now self.old.table.now self.new.table.now (stage len 0 0 0 0) (stage (len + 1) 0 0 0 0) }
     {
-        for start in 0..self.input.words.len() - len + 1 {
+        for start in 0..=self.input.words.len() - len {
             let end = start + len;
             self.fill_span(Span { start, end });
         }
@@ -83,8 +84,8 @@ impl<'a, 's, S: Semiring> Sums<'a, 's, S> {
         ensures kept { Kept self.old self.new }
         ensures blank { Blank S.Semiring.scale (entries_in self.old.input.now) self.old.table.now self.new.table.now }
     {
-        let wide = self.input.words.len() + 1;
-        let count = place_count(self.input.productions) * (wide * wide);
+        let count = place_count(self.input.productions) * self.input.per_place();
+        // Not by `fill`: it asks that a clone never fails, and `Copy` does not say so.
         self.table[..count].fill_with(|| S::none());
     }
 
@@ -94,7 +95,7 @@ impl<'a, 's, S: Semiring> Sums<'a, 's, S> {
         ensures right { AllRight S.Semiring.scale self.old.input.now self.old.table.now self.new.table.now }
     {
         self.clear();
-        for len in 0..self.input.words.len() + 1 {
+        for len in 0..=self.input.words.len() {
             self.fill_length(len);
         }
     }

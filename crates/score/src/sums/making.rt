@@ -16,6 +16,7 @@ impl<'a, 's, S: Semiring> Sums<'a, 's, S> {
         ensures { Makes S.Semiring.scale self.now.input.now self.now.table.now entry.production (suc entry.dot) entry.span.start entry.span.end result }
     {
         let span = entry.span;
+        // By index: the sum that is held goes up to it, and what `last` of the span's words answers would have to be led back to it.
         if span.end <= span.start {
             return S::none();
         }

@@ -62,7 +62,7 @@ loop-place-preserved t c =
             λ g of item can.
                 let i = kept.3 g of item can in
                 let l : k < size_of g n.production = omega (arith, c.loop-place-test.true, ap length right, size_same n.sources g of n.production) in
-                child_stepped n g of c.rows-rows.result c.rows-rows.ensures.rows item can l i.1 w.in-Some.child child.0 child.1 c.args.records.now
+                child_stepped n g of c.rows-rows.result c.rows-rows.ensures item can l i.1 w.in-Some.child child.0 child.1 c.args.records.now
                 c.loop-place.records w.list.new.records c.loop-place.count i.2 i.3 kept.1 w.in_ok-count.field-0 c.match-next_child.count
                 c.match-next_child.start c.match-next_child.records (w.in_ok-count.ensures.listed g) w.records-is w.count-is w.start-is,
           )
@@ -75,7 +75,7 @@ loop-place-preserved t c =
             let l : k < size_of g n.production = omega (arith, c.loop-place-test.true, ap length right, size_same n.sources g of n.production) in
             let low : get_or (right_of g n.production) k 0 < 16 =
             omega (arith, c.if-symbol-ge16.false, ap (λ xs. get_or xs k 0) right, symbol_same n.sources g of n.production k) in
-            absurd (front_none n g of c.rows-rows.result c.rows-rows.ensures.rows item can l i.1 low w.in_default.ensures),
+            absurd (front_none n g of c.rows-rows.result c.rows-rows.ensures item can l i.1 low w.in_default.ensures),
       )
     ]
 
@@ -88,7 +88,7 @@ returns-in_err-count-clause-listed t c g of item can =
     omega (arith, c.loop-place-test.true, ap length c.right-symbol-items.ensures.is, size_same n.sources g of n.production) in
     let child = c.in-Some.ensures in
     rw (r.1, r.2)
-    (child_broke n g of c.rows-rows.result c.rows-rows.ensures.rows item can l i.1 c.in-Some.child child.0 child.1 c.args.records.now
+    (child_broke n g of c.rows-rows.result c.rows-rows.ensures item can l i.1 c.in-Some.child child.0 child.1 c.args.records.now
     c.loop-place.records c.list.new.records c.loop-place.count i.2 i.3 c.loop-place.invariant.1 c.in_err-count.field-0.0 _
     (c.in_err-count.ensures.listed g) refl)
 

@@ -2,6 +2,7 @@ use Rattle.std.proofs.Common.{◌≡◌, ℕ, zero, suc, ◌++◌, ◌*◌, ◌+
 use Rattle.std.proofs.lemmas.List.{get_or_append_left, get_or-append_right, get_or-drop, length-append, length-drop, length-take-le}
 use Rattle.std.specs.List.{FoldsTo}
 use Rattle.scales.specs.Scales.{Scale}
+use Rattle.score.specs.Inputs.{entries_in}
 use Rattle.score.specs.Filling.{Blank}
 use Rattle.score.proofs.sums.Sums.clear.Goals as goal
 
@@ -26,9 +27,7 @@ module _ {S : Type 0} (s : Scale S) (t new : List S) (n m : ℕ) (room : m ≤ l
 
 pub returns-clause-blank : goal.returns-clause-blank
 returns-clause-blank g c =
-    let x = c.args.self.now.input.now in
-    let wide = length x.words.now + 1 in
     let s = g.S.Semiring.scale in
-    cleared s c.args.self.now.table.now c.fill_with.new.self (c.place_count.result * (wide * wide)) _ c.args.self.now.room
-    (ap (λ z. z * (wide * wide)) c.place_count.ensures) c.fill_with.ensures.len
-    (all_are _ s.none (λ p y q h. search rules) _ _ _ c.fill_with.ensures.ran.1)
+    let count : c.place_count.result * c.per_place.result ≡ entries_in c.args.self.now.input.now = search rules in
+    cleared s c.args.self.now.table.now c.fill_with.new.self (c.place_count.result * c.per_place.result) _ c.args.self.now.room count
+    c.fill_with.ensures.len (all_are _ s.none (λ p y q h. search rules) _ _ _ c.fill_with.ensures.ran.1)

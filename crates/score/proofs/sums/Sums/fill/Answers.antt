@@ -1,4 +1,4 @@
-use Rattle.std.proofs.Common.{◌≡◌, ℕ, ◌+◌, ◌<◌, ◌≤◌, List, length, sym, ap, ◌∙◌, subst, inr, ⊎_elim, arith}
+use Rattle.std.proofs.Common.{◌≡◌, ℕ, ◌+◌, ◌<◌, ◌≤◌, List, length, sym, ap, ◌∙◌, subst, inr, ⊎_elim, arith, rules}
 use Rattle.std.proofs.lemmas.Bool.{cases_lt}
 use Rattle.scales.specs.Scales.{Scale}
 use Rattle.score.specs.declared.input.Input.{Input}
@@ -34,13 +34,15 @@ module _ {S : Type 0} (s : Scale S) (x : Input) where
         (cases_lt j i);
   }
 
-pub returns-clause-right : goal.returns-clause-right
-returns-clause-right g c =
+pub returns-2-clause-right : goal.returns-2-clause-right
+returns-2-clause-right g c =
     let s = g.S.Semiring.scale in
     let x = c.args.self.now.input.now in
+    let w = c.clear.new.self.input.now in
     let u = c.clear.new.self.table.now in
-    let v = c.loop-len.self.table.now in
-    let n = c.loop-len.len in
-    let same : c.clear.new.self.input.now ≡ x = ap (λ r. r.now) c.clear.ensures.kept.0 in
-    ends s x c.args.self.now.table.now u v n (subst (λ z. length (words_in z) + 1 ≤ n) same c.loop-len-test.false) c.clear.ensures.blank
-    (subst (λ z. Fills s z u v (stage 0 0 0 0 0) (stage n 0 0 0 0)) same c.loop-len.invariant.1)
+    let v = c.fill_length.new.self.table.now in
+    let n = c.loop-len.len + 1 in
+    let same : w ≡ x = ap (λ r. r.now) c.clear.ensures.kept.0 in
+    let all : Fills s w u v (stage 0 0 0 0 0) (stage n 0 0 0 0) = search rules in
+    ends s x c.args.self.now.table.now u v n (subst (λ z. length (words_in z) + 1 ≤ n) same (omega arith)) c.clear.ensures.blank
+    (subst (λ z. Fills s z u v (stage 0 0 0 0 0) (stage n 0 0 0 0)) same all)
