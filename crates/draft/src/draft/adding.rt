@@ -6,7 +6,6 @@ ghost use Rattle.draft.specs.Calls.{
   SetsStart,
   OutOfRange,
   NoRoom,
-  RepeatsSides,
   Repeats,
   AddsProduction,
   Names,
@@ -30,12 +29,12 @@ fn in_range(left: u8, right: &[u8]) -> bool
     left <= 15 && right.iter().all(|symbol| *symbol <= 47)
 }
 
-// Whether the production has these two sides.
-fn same_sides(p: &Production, left: u8, right: &[u8]) -> bool
-    ensures yes { result ≡ true → ((production p.now).left ≡ left) × ((production p.now).right ≡ right.now) }
-    ensures no { result ≡ false → (production p.now).left ≡ left → (production p.now).right ≢ right.now }
+// Whether the two productions have the same two sides.
+fn same_sides(p: &Production, other: &Production) -> bool
+    ensures yes { result ≡ true → ((production p.now).left ≡ (production other.now).left) × ((production p.now).right ≡ (production other.now).right) }
+    ensures no { result ≡ false → (production p.now).left ≡ (production other.now).left → (production p.now).right ≢ (production other.now).right }
 {
-    p.left() == left && p.right() == right
+    p.left() == other.left() && p.right() == other.right()
 }
 
 // Whether the rule says what the other says; an associativity counts both ways round.
@@ -82,14 +81,12 @@ impl Draft {
         Ok(symbol)
     }
 
-    // Whether a production with these two sides is there.
-    fn has_sides(&self, left: u8, right: &[u8]) -> bool
-        ensures yes { result ≡ true → RepeatsSides (model self.now).productions left right.now }
-        ensures no { result ≡ false → ¬ RepeatsSides (model self.now).productions left right.now }
+    // Whether a production with the two sides of this one is there.
+    fn has_sides(&self, other: &Production) -> bool
+        ensures yes { result ≡ true → Repeats (model self.now) (production other.now) }
+        ensures no { result ≡ false → ¬ Repeats (model self.now) (production other.now) }
     {
-        self.productions()
-            .iter()
-            .any(|production| same_sides(production, left, right))
+        self.productions().iter().any(|p| same_sides(p, other))
     }
 
     // Whether the rules say what this one says.
@@ -136,7 +133,7 @@ impl Draft {
         if !self.has_room(&production) {
             return Err(DraftRefusal::Full);
         }
-        if self.has_sides(left, right) {
+        if self.has_sides(&production) {
             return Err(DraftRefusal::Repeated);
         }
         self.accept_production(production)
