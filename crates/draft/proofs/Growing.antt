@@ -4,8 +4,8 @@ use mathlib.Core.List.Memᴰ
 use native.Mathlib.Decide.{dec_lt}
 use Rattle.std.proofs.lemmas.List.{get_or_append_left, get_or_push, length_push, take-append-le, take_at}
 use Rattle.grammar.specs.declared.rule.Relation.{Relation}
-use Rattle.grammar.specs.Grammar.{Production, Rule, Grammar, Nonterminal, no_production, production_at, left_at, right_at, places, empty_grammar, with_start, with_production, with_rule}
-use Rattle.grammar.specs.Order.{Closure, closure_one, closure_more, Says}
+use Rattle.grammar.specs.Grammar.{Production, Rule, Grammar, Nonterminal, no_production, production_at, left_at, right_at, places, with_start, with_production, with_rule}
+use Rattle.grammar.specs.Order.{Says}
 use Rattle.grammar.specs.Sound.{Apart, RulesApart, WellFormed}
 use Rattle.draft.specs.Calls.{OutOfRange, TooLong, NoRoom, Repeats, Loops, Names, numbered, RepeatsRule, AboveItself}
 
@@ -20,26 +20,6 @@ upper_of r = r.upper
 
 abbrev lower_of : Rule → ℕ
 lower_of r = r.lower
-
--- a closure begins with a step
-pub closure_first : {R : ℕ → ℕ → Type 0} {x z : ℕ} → Closure R x z → (y : ℕ) × R x y
-closure_first (closure_one {y = y} h) = (y, h)
-closure_first (closure_more {y = y} h t) = (y, h)
-
-pub empty_well_formed : WellFormed empty_grammar
-empty_well_formed =
-    record {
-      small = (omega arith, omega arith, omega arith);
-      starts = omega arith;
-      sides = λ p h. absurd (omega arith);
-      symbols = λ p k h. absurd (omega arith);
-      prices = λ p h. absurd (omega arith);
-      apart = λ p q a. absurd (omega arith);
-      named = λ r m. absurd (Memᴰ.not-nil m);
-      unrepeated = λ k r h. absurd (omega arith);
-      acyclic = λ A h. let s = closure_first h in let k = s.1.known in absurd (omega arith);
-      ordered = λ p h. Memᴰ.not-nil (closure_first h).1;
-    }
 
 -- ---- a production more
 

@@ -15,6 +15,10 @@ module _ {X Y : Type 0} (f : X → Y) (xs : List X) where
   pub pushed : (n : ℕ) (x : X) → n < length xs → map f (take (n + 1) (set xs n x)) ≡ map f (take n xs) ++ f x ∷ []
   pushed n x h = ap (map f) (take_more_set xs n x h) ∙ map_push f (take n xs) x
 
+-- what is true of an element of a list is true of what it stands for
+pub one_stands : {X Y : Type 0} (f : X → Y) (P : Y → Type 0) (xs : List X) (e : Y) (k : ℕ) (d : X) → k < length xs → P (f (get_or xs k d)) → P (get_or (map f xs) k e)
+one_stands f P xs e k d h p = subst P (sym (get_or-map f xs k d e h)) p
+
 -- what is true of no element of a list is true of none that the elements stand for
 pub none_stands : {X Y : Type 0} (f : X → Y) (P : Y → Type 0) (xs : List X) (e : Y) → ((k : ℕ) (d : X) → k < length xs → ¬ P (f (get_or xs k d))) → (k : ℕ) → k < length (map f xs) → ¬ P (get_or (map f xs) k e)
 none_stands f P [] e none k l p = omega arith

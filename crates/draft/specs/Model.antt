@@ -4,4 +4,4 @@ use Rattle.grammar.specs.Grammar.{Grammar}
 use Rattle.draft.specs.Stored.{grammar}
 
 abbrev pub model : Draft → Grammar
-model d = grammar d.start d.productions d.count d.rules d.ruled
+model d = grammar d.start d.productions.items d.rules.items

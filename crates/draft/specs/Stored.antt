@@ -1,5 +1,5 @@
 -- The grammar that a draft's fields hold, and what every draft keeps. Assumes nothing.
-use Rattle.std.specs.Prelude.{◌≡◌, ℕ, ◌<◌, ◌≤◌, ◌⊎◌, List, take, slice_index_or}
+use Rattle.std.specs.Prelude.{◌≡◌, ℕ, ◌<◌, ◌≤◌, ◌⊎◌, List, slice_index_or}
 use Rattle.grammar.specs.declared.production.Production.{Production as Stored}
 use Rattle.grammar.specs.declared.rule.Rule.{Rule as Numbered}
 use Rattle.grammar.specs.declared.rule.Relation.{Relation}
@@ -7,9 +7,9 @@ use Rattle.grammar.specs.declared.rule.Relation.TheVariants.{Priority}
 use Rattle.grammar.specs.Grammar.{Grammar}
 use Rattle.grammar.specs.Model.{productions, rules}
 
--- the first of the stored productions and rules count
-abbrev pub grammar : ℕ → List Stored → ℕ → List Numbered → ℕ → Grammar
-grammar start ps count rs ruled = record { start = start; productions = productions (take count ps); rules = rules (take ruled rs) }
+-- what the fields hold, as a grammar
+abbrev pub grammar : ℕ → List Stored → List Numbered → Grammar
+grammar start ps rs = record { start = start; productions = productions ps; rules = rules rs }
 
 -- the rules hold numbers from 1 to the count of productions
 abbrev pub Numbers : List Numbered → ℕ → ℕ → Type 0

@@ -5,7 +5,8 @@ use syntax::spelling::Spelling;
 
 mod methods;
 
-// The spellings of the kinds from 16 on, in order of declaration, at most 32. (No heap; the list of bytes holds only bytes.)
+// The spellings of the kinds from 16 on, in order of declaration, at most 32. (An array with a count: this is `Copy`, which the
+// kit's `ArrayVec` is not.)
 #[derive(Clone, Copy)]
 pub struct Spellings {
     words: [Spelling; 32],

@@ -6,7 +6,6 @@ ghost use Rattle.draft.specs.Calls.{
   SetsStart,
   OutOfRange,
   NoRoom,
-  RepeatsSides,
   Repeats,
   AddsProduction,
   Names,
@@ -17,6 +16,7 @@ ghost use Rattle.draft.specs.Model.{model};
 ghost use Rattle.draft.specs.Stored.{SameRule};
 
 use super::Draft;
+use arrayvec::ArrayVec;
 use derivations::{above_itself, leads_to_itself};
 use grammar::production::Production;
 use grammar::refusals::DraftRefusal;
@@ -30,12 +30,12 @@ fn in_range(left: u8, right: &[u8]) -> bool
     left <= 15 && right.iter().all(|symbol| *symbol <= 47)
 }
 
-// Whether the production has these two sides.
-fn same_sides(p: &Production, left: u8, right: &[u8]) -> bool
-    ensures yes { result ≡ true → ((production p.now).left ≡ left) × ((production p.now).right ≡ right.now) }
-    ensures no { result ≡ false → (production p.now).left ≡ left → (production p.now).right ≢ right.now }
+// Whether the two productions have the same two sides.
+fn same_sides(p: &Production, other: &Production) -> bool
+    ensures yes { result ≡ true → ((production p.now).left ≡ (production other.now).left) × ((production p.now).right ≡ (production other.now).right) }
+    ensures no { result ≡ false → (production p.now).left ≡ (production other.now).left → (production p.now).right ≢ (production other.now).right }
 {
-    p.left() == left && p.right() == right
+    p.left() == other.left() && p.right() == other.right()
 }
 
 // Whether the rule says what the other says; an associativity counts both ways round.
@@ -56,18 +56,10 @@ impl Draft {
     pub fn new() -> Draft
         ensures { model result ≡ empty_grammar }
     {
-        let production = Production::empty(0, 0);
-        let rule = Rule {
-            upper: 0,
-            relation: Relation::Priority,
-            lower: 0,
-        };
         Draft {
             start: 0,
-            productions: [production; 32],
-            count: 0,
-            rules: [rule; 64],
-            ruled: 0,
+            productions: ArrayVec::new(),
+            rules: ArrayVec::new(),
         }
     }
 
@@ -82,14 +74,12 @@ impl Draft {
         Ok(symbol)
     }
 
-    // Whether a production with these two sides is there.
-    fn has_sides(&self, left: u8, right: &[u8]) -> bool
-        ensures yes { result ≡ true → RepeatsSides (model self.now).productions left right.now }
-        ensures no { result ≡ false → ¬ RepeatsSides (model self.now).productions left right.now }
+    // Whether a production with the two sides of this one is there.
+    fn has_sides(&self, other: &Production) -> bool
+        ensures yes { result ≡ true → Repeats (model self.now) (production other.now) }
+        ensures no { result ≡ false → ¬ Repeats (model self.now) (production other.now) }
     {
-        self.productions()
-            .iter()
-            .any(|production| same_sides(production, left, right))
+        self.productions().iter().any(|p| same_sides(p, other))
     }
 
     // Whether the rules say what this one says.
@@ -105,7 +95,7 @@ impl Draft {
         ensures yes { result ≡ true → ¬ NoRoom (model self.now) (production p.now) }
         ensures no { result ≡ false → NoRoom (model self.now) (production p.now) }
     {
-        self.count < 32 && self.place_count() + p.places() <= 128
+        !self.productions.is_full() && self.place_count() + p.places() <= 128
     }
 
     // Adds a production that is in range, has room and repeats none, unless a nonterminal would then lead to itself.
@@ -115,13 +105,12 @@ impl Draft {
         requires fresh { ¬ Repeats (model self.old) (production p) }
         ensures { AddsProduction (model self.old) (production p) result (model self.new) }
     {
-        let at = self.count;
-        self.productions[at] = p;
-        if leads_to_itself(&self.productions[..=at]) {
+        self.productions.push(p);
+        if leads_to_itself(self.productions.as_slice()) {
+            self.productions.pop();
             return Err(DraftRefusal::LeadsToItself);
         }
-        self.count = at + 1;
-        Ok((at + 1) as u8)
+        Ok(self.productions.len() as u8)
     }
 
     // Adds a production, and answers its number, which counts from 1.
@@ -136,14 +125,14 @@ impl Draft {
         if !self.has_room(&production) {
             return Err(DraftRefusal::Full);
         }
-        if self.has_sides(left, right) {
+        if self.has_sides(&production) {
             return Err(DraftRefusal::Repeated);
         }
         self.accept_production(production)
     }
 
-    // Adds a rule between two productions that there are, unless one would then have priority over itself. It is not one function with
-    // `accept_production`: each has its own test and bound.
+    // Adds a rule between two productions that there are, unless one would then have priority over itself. (It is not one function with
+    // `accept_production`: the list, its model, the test and the refusal all differ.)
     fn accept_rule(&mut self, rule: Rule) -> Result<u8, DraftRefusal>
         requires upper { Names (length (model self.old).productions) rule.upper }
         requires lower { Names (length (model self.old).productions) rule.lower }
@@ -151,13 +140,12 @@ impl Draft {
         requires fresh { ¬ RepeatsRule (model self.old) rule.upper rule.relation rule.lower }
         ensures { AddsRule (model self.old) rule.upper rule.relation rule.lower result (model self.new) }
     {
-        let at = self.ruled;
-        self.rules[at] = rule;
-        if above_itself(&self.rules[..=at]) {
+        self.rules.push(rule);
+        if above_itself(self.rules.as_slice()) {
+            self.rules.pop();
             return Err(DraftRefusal::AboveItself);
         }
-        self.ruled = at + 1;
-        Ok((at + 1) as u8)
+        Ok(self.rules.len() as u8)
     }
 
     // The number as rules hold it, if it is a production's.
@@ -165,7 +153,7 @@ impl Draft {
         ensures { MatchResult result (λ n. (n ≡ number) × Names (length (model self.now).productions) n) (λ e. (e ≡ NoProduction) × ¬ Names (length (model self.now).productions) number) }
     {
         match u8::try_from(number) {
-            Ok(named) if named > 0 && usize::from(named) <= self.count => Ok(named),
+            Ok(named) if named > 0 && usize::from(named) <= self.productions.len() => Ok(named),
             _ => Err(DraftRefusal::NoProduction),
         }
     }
@@ -188,7 +176,7 @@ impl Draft {
         if self.has_rule(&rule) {
             return Err(DraftRefusal::Repeated);
         }
-        if self.ruled >= 64 {
+        if self.rules.is_full() {
             return Err(DraftRefusal::RulesFull);
         }
         self.accept_rule(rule)

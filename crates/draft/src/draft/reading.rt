@@ -21,14 +21,14 @@ impl Draft {
     pub fn production_count(&self) -> usize
         ensures { result ≡ length (model self.now).productions }
     {
-        self.count
+        self.productions.len()
     }
 
     // How many rules there are.
     pub fn rule_count(&self) -> usize
         ensures { result ≡ length (model self.now).rules }
     {
-        self.ruled
+        self.rules.len()
     }
 
     // The production of a number, which counts from 1; none where no production has it.
@@ -44,7 +44,7 @@ impl Draft {
     pub fn productions(&self) -> &[Production]
         ensures { productions result.now ≡ (model self.now).productions }
     {
-        &self.productions[..self.count]
+        self.productions.as_slice()
     }
 
     // The rules in the order of acceptance. Each has the numbers of two productions, which count from 1.
@@ -52,7 +52,7 @@ impl Draft {
         ensures rules { rules result.now ≡ (model self.now).rules }
         ensures numbers { Numbers result.now (length result.now) (length (model self.now).productions) }
     {
-        &self.rules[..self.ruled]
+        self.rules.as_slice()
     }
 
     // The rule of a number, which counts from 1 in the order of acceptance; none where no rule has it.

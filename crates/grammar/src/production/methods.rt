@@ -1,5 +1,5 @@
 ghost use Rattle.std.specs.Prelude.{◌≡◌, ◌+◌, ◌<◌, ◌≤◌, [], length, MatchOption};
-ghost use Rattle.grammar.specs.Grammar.{places};
+ghost use Rattle.grammar.specs.Grammar.{no_production, places};
 ghost use Rattle.grammar.specs.Model.{production, productions as model};
 
 use super::Production;
@@ -53,6 +53,15 @@ impl Production {
         ensures few { result ≤ 7 }
     {
         self.right.len() + 1
+    }
+}
+
+// What stands in the free places of a list of productions.
+impl Default for Production {
+    ghost is_default = { λ p. production p ≡ no_production };
+
+    fn default() -> Production {
+        Production::empty(0, 0)
     }
 }
 

@@ -54,7 +54,7 @@ returns-then-has_sides c =
     let g = model c.args.self.now in
     let p = asked c.args.left c.args.right.now c.args.price in
     let e = made _ _ _ _ _ c.in_ok-production.ensures.ok_part c.new.ensures in (
-      sides_repeated (c.if-has_sides.ensures.yes refl),
+      sides_repeated (subst (Repeats g) e (c.if-has_sides.ensures.yes refl)),
       production_none g p 4
           (below_four g p (c.if-not-in_range.ensures.yes refl) (λ h. short c.in_ok-production.production (subst TooLong (sym e) h)) (λ h. c.if-not-has_room.ensures.yes refl (subst (NoRoom g) (sym e) h))),
       refl,
@@ -67,5 +67,5 @@ accept_production-requires c =
     record {
       range = λ h. c.if-not-in_range.ensures.yes refl (subst OutOfRange e h);
       room = c.if-not-has_room.ensures.yes refl;
-      fresh = λ h. c.if-has_sides.ensures.no refl (subst (Repeats g) e h);
+      fresh = c.if-has_sides.ensures.no refl;
     }

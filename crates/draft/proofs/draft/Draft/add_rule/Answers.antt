@@ -1,10 +1,11 @@
 use Rattle.std.proofs.Common.{length, Err, sym, refl, ap, ◌∙◌, subst, inl, inr, ⊎_elim, arith}
+use Rattle.std.proofs.lemmas.List.{length-map}
+use Rattle.std.proofs.lemmas.Bool.{eqb-true, eqb-false}
 use Rattle.std.proofs.lemmas.Result.{err_from_is_err_and}
 use Rattle.grammar.specs.Model.{rule}
 use Rattle.draft.specs.Calls.{Names, rule_repeated, rules_full}
 use Rattle.draft.specs.Model.{model}
 use Rattle.draft.proofs.Causes.{below_repeat, below_full, rule_none, names_refused}
-use Rattle.draft.proofs.Tables.{counted}
 use Rattle.draft.proofs.draft.Draft.add_rule.Goals as goal
 
 pub returns-then-has_rule : goal.returns-then-has_rule
@@ -29,13 +30,13 @@ returns-in_err-named-2 c =
     let none = c.in_err-named-2.ensures in
     names_refused (model c.args.self.now) c.args.upper c.args.relation c.args.lower c.args.self.now.named (inr none.1) _ (r.1 ∙ ap Err (r.2 ∙ none.0))
 
-pub returns-then-self-ge64 : goal.returns-then-self-ge64
-returns-then-self-ge64 c =
+pub returns-then-is_full : goal.returns-then-is_full
+returns-then-is_full c =
     let d = c.args.self.now in
     let g = model d in
     let up = c.in_ok-named.ensures in
     let low = c.in_ok-named-2.ensures in (
-      rules_full (omega (arith, counted rule d.rules d.ruled (omega arith))),
+      rules_full (omega (arith, length-map d.rules.items rule, eqb-true _ _ (sym c.is_full.ensures.value ∙ c.if-is_full.true))),
       rule_none g c.args.upper c.args.relation c.args.lower 7
           (below_full g c.args.upper c.args.relation c.args.lower (rw (sym up.0, sym low.0) (c.if-has_rule.ensures.no refl))
           (λ o. ⊎_elim (λ no. no (subst (Names (length g.productions)) up.0 up.1)) (λ no. no (subst (Names (length g.productions)) low.0 low.1)) o)),
@@ -50,6 +51,6 @@ accept_rule-requires c =
     record {
       upper = up.1;
       lower = low.1;
-      room = omega (arith, counted rule d.rules d.ruled (omega arith));
+      room = let n = eqb-false _ _ (sym c.is_full.ensures.value ∙ c.if-is_full.false) in omega (arith, length-map d.rules.items rule, c.is_full.ensures.fits);
       fresh = c.if-has_rule.ensures.no refl;
     }
