@@ -8,7 +8,7 @@ ghost use Rattle.tables.specs.Entries.{AnyStart, Admits, Row, Tabulates, WaitsFo
 
 use crate::marking::mark_each;
 use crate::source::Source;
-use bitset::with;
+use bitset::choosing::chosen;
 
 impl Source<'_, '_> {
     // Whether the production q may stand at position k of the production p: its left side does, and there is no conflict.
@@ -33,14 +33,7 @@ impl Source<'_, '_> {
         ensures { AnyStart (productions_of self.now.productions.now) (rules_of self.now.rules.now)
             (λ g. (q : ℕ) → Has result q ↔ WaitsFor g p k q) }
     {
-        let mut set = 0;
-        // (for `chosen` the closure would have to repeat the clauses of `admits`, which speak of every start symbol)
-        for q in 0..self.productions.len() {
-            if self.admits(p, k, q) {
-                set = with(set, q);
-            }
-        }
-        set
+        chosen(0..self.productions.len(), |q| self.admits(p, k, q))
     }
 
     // Puts the places of the production p into the sets of the productions that may stand there.
