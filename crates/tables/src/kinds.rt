@@ -32,8 +32,7 @@ impl Source<'_, '_> {
 
     // For each kind the places before it.
     pub(crate) fn before(&self) -> [u64; 64]
-        ensures whole { length result ≡ 64 }
-        ensures holds { Tabulates (productions_of self.now.productions.now)
+        ensures { Tabulates (productions_of self.now.productions.now)
             (KindNext (productions_of self.now.productions.now)) result }
     {
         let mut before = [0u64; 64];

@@ -11,7 +11,8 @@ use bitset::choosing::chosen;
 use bitset::growing::grown;
 use bitset::{contains, with};
 
-// Whether a production of the set may stand behind the place d.
+// Whether a production of the set may stand behind the place d. (The table and the set go apart: no contract asks
+// anything of the two together.)
 fn is_filled(waits: &[u64; 64], set: u32, d: usize) -> bool
     requires { d < 128 }
     ensures yes { result ≡ true → Filled waits.now set d }
@@ -29,7 +30,8 @@ impl Source<'_, '_> {
     {
         let first = self.first[p] as usize;
         let right = self.productions[p].right();
-        right.iter().enumerate().all(|(k, symbol)| *symbol >= 16 || is_filled(waits, set, first + k))
+        right.iter().enumerate().all(|(k, symbol)| *symbol >= 16
+            || is_filled(waits, set, first + k))
     }
 
     // The set with the production p, if the set fills its right side.

@@ -12,7 +12,7 @@ use bitset::choosing::chosen;
 
 impl Source<'_, '_> {
     // Whether the production q may stand at position k of the production p: its left side does, and there is no conflict.
-    // (p and k alone: a struct of them would hold the source)
+    // (p and k alone: only `admits` and `admitted` ask that there is such a position, two contracts)
     fn admits(&self, p: usize, k: usize, q: usize) -> bool
         requires parent { p < length self.now.productions.now }
         requires position { k < length (right_at (productions_of self.now.productions.now) p) }
@@ -51,8 +51,7 @@ impl Source<'_, '_> {
 
     // For each production the places whose next symbol it may be.
     pub(crate) fn waits(&self) -> [u64; 64]
-        ensures whole { length result ≡ 64 }
-        ensures holds { AnyStart (productions_of self.now.productions.now) (rules_of self.now.rules.now)
+        ensures { AnyStart (productions_of self.now.productions.now) (rules_of self.now.rules.now)
             (λ g. Tabulates g.productions (WaitsFor g) result) }
     {
         let mut waits = [0u64; 64];

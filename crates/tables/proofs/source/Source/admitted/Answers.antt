@@ -1,4 +1,4 @@
-use Rattle.std.proofs.Common.{◌≡◌, ℕ, Bool, length, sym, arith, rules as steps}
+use Rattle.std.proofs.Common.{◌≡◌, Bool, length, sym, arith, rules as steps}
 use Rattle.grammar.specs.Grammar.{Grammar}
 use Rattle.grammar.specs.Model.{productions, rules}
 use Rattle.bitset.proofs.Passing.{chosen_has}
