@@ -30,7 +30,7 @@ pub mark_each-requires : goal.mark_each-requires
 mark_each-requires c =
     let self = c.args.self.now in
     let size = ap length (right_there self.productions.now c.args.p c.index-self-p.result c.requires _ c.right-k-end.ensures) in
-    place_small self.productions.now self.first c.args.p c.loop-k.k self.begins self.small c.requires (omega (arith, size, c.loop-k-test.true))
+    omega (arith, place_small self.productions.now self.first c.args.p c.loop-k.k self.begins self.small c.requires (omega (arith, size, c.loop-k-test.true)))
 
 pub loop-k-preserved : goal.loop-k-preserved
 loop-k-preserved c start =
