@@ -13,7 +13,7 @@ pub fn chosen<S: Bits, F: Fn(usize) -> bool>(numbers: Range<usize>, test: F) -> 
     ensures failed { (x : ℕ) → numbers.start ≤ x → x < numbers.end → ¬ Has (S.number result) x → F.post test x false }
 {
     let mut set = S::narrowed(0);
-    for x in numbers.start..numbers.end {
+    for x in numbers {
         if test(x) {
             set = with(set, x);
         }

@@ -10,6 +10,8 @@ fn pass<F: Fn(u32, usize) -> u32>(set: u32, count: usize, step: &F) -> u32
     ensures reached { Reached (AnyBelow count (F.post step.now)) result }
     ensures fixed { result ≡ set → (k : ℕ) → k < count → F.post step.now set k set }
 {
+    // (for a `fold` it is to be shown by hand that each of its calls is allowed, and apart from that what they come to; the loop
+    // needs one invariant)
     let mut next = set;
     for k in 0..count {
         next = step(next, k);

@@ -19,10 +19,7 @@ pub fn contains<S: Bits>(set: S, x: usize) -> bool
     ensures no { result ≡ false → ¬ Has (S.number set) x }
 {
     let wide = set.widened();
-    if x >= 64 {
-        return false;
-    }
-    (wide >> x) & 1 == 1
+    x < 64 && (wide >> x) & 1 == 1
 }
 
 // The set with x in it.

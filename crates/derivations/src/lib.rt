@@ -1,8 +1,8 @@
 //! What the productions and the rules of a grammar derive: which nonterminals derive the empty list, which lead to
 //! which, and which productions have priority over which.
 //!
-//! Each function asks of the slice that left sides are nonterminals, or that rules name productions: a type that says so
-//! would ask the same of whoever makes one, and a draft would have to make it at each call.
+//! Each function asks of the slice that left sides are nonterminals, or that rules name productions. `Production` and `Rule`
+//! are public types that any caller may make, so a fact in the type would ask more of whoever makes one.
 
 #![tactic(auto)]
 

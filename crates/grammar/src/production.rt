@@ -6,7 +6,8 @@ mod methods;
 
 pub use methods::place_count;
 
-// A production: its left nonterminal, its right side of at most six symbols, and its price.
+// A production: its left nonterminal, its right side of at most six symbols, and its price. (Symbols are bytes, as in the public
+// interface: nonterminals below 16, and kinds from there on.)
 #[derive(Clone, Copy)]
 pub struct Production {
     left: u8,

@@ -53,7 +53,8 @@ pub enum Refusal {
     Line(LineRefusal),
 }
 
-// The number is a method of each layer's refusals: a trait for it would have the same four bodies, and callers would import it.
+// The number is a method of each layer's refusals, and the four are public promises, which `Refusal::number` asks: a trait for it would
+// have the same four bodies, and callers would import it.
 impl DraftRefusal {
     // The number that callers know this refusal by.
     pub fn number(self) -> u8

@@ -9,7 +9,7 @@ use Rattle.grammar.specs.declared.production.Production.{Production as Stored}
 use Rattle.grammar.specs.Grammar.{Production, no_production, left_at, right_at, places}
 use Rattle.grammar.specs.Model.{production, productions}
 use Rattle.derivations.proofs.Elements.{is_at}
-use Rattle.tables.specs.Places.{first_place, last_place}
+use Rattle.tables.specs.Places.{first_place, last_place, Firsts}
 
 -- the elements below i + 1, once the one at i is written
 pub set_more : (xs : List ℕ) (i v : ℕ) (f : ℕ → ℕ) → i < length xs → ((k : ℕ) → k < i → get_or xs k 0 ≡ f k) → v ≡ f i → (k : ℕ) → k < i + 1 → get_or (set xs i v) k 0 ≡ f k
@@ -85,3 +85,13 @@ module _ (ps : List Production) where
       ⊎_elim (λ (s : p ≡ q). (s, omega (arith, ap (first_place ps) s)))
       (⊎_elim (λ (h : p < q). absurd (omega (arith, places_apart p q h lq))) (λ (h : q < p). absurd (omega (arith, places_apart q p h lp))))
       (cases_order p q)
+
+-- the place of a position of the production p, by a list of the first places
+pub place_small :
+    (ps : List Stored) (first : List ℕ) (p k : ℕ) →
+    Firsts (productions ps) first →
+    places (productions ps) ≤ 128 →
+    p < length ps →
+    k < length (right_at (productions ps) p) →
+    get_or first p 0 + k < 128
+place_small ps first p k begins small l lk = omega (arith, last_low (productions ps) p (known_at ps p l), small, begins p (known_at ps p l), lk)

@@ -2,7 +2,6 @@ pub mod Ordering
 pub mod Relating
 pub mod Counting
 pub mod Marks
-pub mod Members
 pub mod Tabulating
 pub mod Least
 pub mod Falling

@@ -10,13 +10,9 @@ use Rattle.tables.specs.Sets.{Marked}
 abbrev pub Filled : List ℕ → ℕ → ℕ → Type 0
 Filled waits set d = (q : ℕ) × Has set q × Marked waits q d
 
--- each symbol of the right side, whose first place is given, is a kind or filled by the set
-abbrev pub Fillable : List ℕ → ℕ → List ℕ → ℕ → Type 0
-Fillable waits set right first = (k s : ℕ) → At right k s → (16 ≤ s) ⊎ Filled waits set (first + k)
-
--- the same for the right side of the production p
+-- each symbol of the right side of the production p is a kind or filled by the set
 abbrev pub FillableAt : List Production → List ℕ → ℕ → ℕ → Type 0
-FillableAt ps waits set p = Fillable waits set (right_at ps p) (first_place ps p)
+FillableAt ps waits set p = (k s : ℕ) → At (right_at ps p) k s → (16 ≤ s) ⊎ Filled waits set (first_place ps p + k)
 
 -- in every grammar with these productions whose places wait as the table says
 abbrev pub WhereWaits : List Production → List ℕ → (Grammar → Type 0) → Type 0

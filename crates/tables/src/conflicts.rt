@@ -6,7 +6,8 @@ ghost use Rattle.tables.specs.Conflicts.{Relates, Barred, InGrammars};
 use crate::source::Source;
 use grammar::rule::{Relation, Rule};
 
-// Whether the rule has this relation between the two productions, either way round.
+// Whether the rule has this relation between the two productions, either way round. (`Relates` is of every relation, and its numbers
+// count from 0; the model subtracts so too.)
 fn relates(rule: &Rule, p: usize, relation: Relation, q: usize) -> bool
     ensures yes { result ≡ true → Relates (rule_of rule.now) p relation q }
     ensures no { result ≡ false → ¬ Relates (rule_of rule.now) p relation q }
@@ -16,7 +17,8 @@ fn relates(rule: &Rule, p: usize, relation: Relation, q: usize) -> bool
     rule.relation == relation && (upper == p && lower == q || upper == q && lower == p)
 }
 
-// Whether a rule has this relation between the two productions, either way round.
+// Whether a rule has this relation between the two productions, either way round. (The three go apart: `barred` asks for two relations
+// of the same two productions.)
 fn beside(rules: &[Rule], p: usize, relation: Relation, q: usize) -> bool
     ensures yes { result ≡ true → Beside (rules_of rules.now) p relation q }
     ensures no { result ≡ false → ¬ Beside (rules_of rules.now) p relation q }

@@ -1,9 +1,8 @@
-ghost use Rattle.std.specs.Prelude.{◌≡◌, ℕ, ◌+◌, ◌<◌, ◌≤◌, length, slice_index};
-ghost use Rattle.grammar.specs.Grammar.{At};
+ghost use Rattle.std.specs.Prelude.{◌≡◌, ◌+◌, ◌<◌, ◌≤◌, length};
 ghost use Rattle.grammar.specs.Model.{productions as productions_of};
 ghost use Rattle.bitset.specs.Cells.{Marked};
-ghost use Rattle.bitset.specs.Steps.{Adds, Gathers};
-ghost use Rattle.tables.specs.Entries.{Tabulates, KindNext};
+ghost use Rattle.bitset.specs.Steps.{Adds};
+ghost use Rattle.tables.specs.Entries.{Row, Tabulates, KindNext};
 
 use crate::source::Source;
 use bitset::cells::mark;
@@ -18,30 +17,28 @@ fn mark_kind(before: &mut [u64; 64], symbol: u8, d: usize)
     }
 }
 
-// Puts the places of a right side, from its first one on, into the sets of the kinds that stand there. (The right side and its first
-// place go apart, as in `fillable`.)
-fn mark_kinds(before: &mut [u64; 64], right: &[u8], first: usize)
-    requires symbols { (k : ℕ) → k < length right.now → slice_index right.now k < 48 }
-    requires small { first + length right.now < 128 }
-    ensures { Gathers (Marked before.old) (Marked before.new) (length right.now)
-        (λ k x e. At right.now k (16 + x) × (e ≡ first + k)) }
-{
-    for (k, symbol) in right.iter().enumerate() {
-        mark_kind(before, *symbol, first + k);
-    }
-}
-
 impl Source<'_, '_> {
+    // Puts the places of the production p into the sets of the kinds that stand there.
+    fn mark_kinds(&self, before: &mut [u64; 64], p: usize)
+        requires { p < length self.now.productions.now }
+        ensures { Adds (Marked before.old) (Marked before.new)
+            (Row (productions_of self.now.productions.now) (KindNext (productions_of self.now.productions.now)) p) }
+    {
+        let first = self.first[p] as usize;
+        for (k, symbol) in self.productions[p].right().iter().enumerate() {
+            mark_kind(before, *symbol, first + k);
+        }
+    }
+
     // For each kind the places before it.
     pub(crate) fn before(&self) -> [u64; 64]
-        ensures whole { length result ≡ 64 }
-        ensures holds { Tabulates (productions_of self.now.productions.now)
+        ensures { Tabulates (productions_of self.now.productions.now)
             (KindNext (productions_of self.now.productions.now)) result }
     {
         let mut before = [0u64; 64];
-        // (over `zip` the loop has no number of the production, by which its invariant counts)
-        for (p, production) in self.productions.iter().enumerate() {
-            mark_kinds(&mut before, production.right(), self.first[p] as usize);
+        // `mark_kinds` asks by number.
+        for p in 0..self.productions.len() {
+            self.mark_kinds(&mut before, p);
         }
         before
     }

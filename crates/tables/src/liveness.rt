@@ -3,7 +3,7 @@ ghost use Rattle.grammar.specs.Grammar.{left_at};
 ghost use Rattle.grammar.specs.Items.{Live};
 ghost use Rattle.grammar.specs.Model.{productions as productions_of};
 ghost use Rattle.bitset.specs.Bits.{Has};
-ghost use Rattle.tables.specs.Filling.{Filled, Fillable, FillableAt, WhereWaits};
+ghost use Rattle.tables.specs.Filling.{Filled, FillableAt, WhereWaits};
 
 use crate::source::Source;
 use bitset::cells::is_marked;
@@ -11,7 +11,8 @@ use bitset::choosing::chosen;
 use bitset::growing::grown;
 use bitset::{contains, with};
 
-// Whether a production of the set may stand behind the place d.
+// Whether a production of the set may stand behind the place d. (The table and the set go apart: no contract asks
+// anything of the two together.)
 fn is_filled(waits: &[u64; 64], set: u32, d: usize) -> bool
     requires { d < 128 }
     ensures yes { result ≡ true → Filled waits.now set d }
@@ -20,17 +21,19 @@ fn is_filled(waits: &[u64; 64], set: u32, d: usize) -> bool
     (0..32).any(|q| contains(set, q) && is_marked(waits, q, d))
 }
 
-// Whether each symbol of the right side, whose first place is given, is a kind or filled by the set. (The right side and its first
-// place: two parts of what one production has, which each caller has at hand; a struct would be made to be taken apart.)
-fn fillable(waits: &[u64; 64], set: u32, right: &[u8], first: usize) -> bool
-    requires { first + length right.now < 128 }
-    ensures yes { result ≡ true → Fillable waits.now set right.now first }
-    ensures no { result ≡ false → ¬ Fillable waits.now set right.now first }
-{
-    right.iter().enumerate().all(|(k, symbol)| *symbol >= 16 || is_filled(waits, set, first + k))
-}
-
 impl Source<'_, '_> {
+    // Whether each symbol of the right side of the production p is a kind or filled by the set.
+    fn fillable(&self, waits: &[u64; 64], set: u32, p: usize) -> bool
+        requires { p < length self.now.productions.now }
+        ensures yes { result ≡ true → FillableAt (productions_of self.now.productions.now) waits.now set p }
+        ensures no { result ≡ false → ¬ FillableAt (productions_of self.now.productions.now) waits.now set p }
+    {
+        let first = self.first[p] as usize;
+        let right = self.productions[p].right();
+        right.iter().enumerate().all(|(k, symbol)| *symbol >= 16
+            || is_filled(waits, set, first + k))
+    }
+
     // The set with the production p, if the set fills its right side.
     fn with_filled(&self, waits: &[u64; 64], set: u32, p: usize) -> u32
         requires { p < length self.now.productions.now }
@@ -38,8 +41,7 @@ impl Source<'_, '_> {
             Has result q ↔ (Has set q ⊎ ((q ≡ p) × FillableAt (productions_of self.now.productions.now) waits.now set p)) }
         ensures grows { set ≤ result }
     {
-        let right = self.productions[p].right();
-        if fillable(waits, set, right, self.first[p] as usize) {
+        if self.fillable(waits, set, p) {
             with(set, p)
         } else {
             set

@@ -15,7 +15,6 @@ use grammar::rule::Rule;
 fn firsts(productions: &[Production]) -> [u8; 32]
     requires few { length productions.now ≤ 32 }
     requires small { places (productions_of productions.now) ≤ 128 }
-    ensures whole { length result ≡ 32 }
     ensures zero { slice_index result 0 ≡ 0 }
     ensures each { Firsts (productions_of productions.now) result }
 {
@@ -51,6 +50,7 @@ impl<'p, 'r> Source<'p, 'r> {
         ensures { p < length (productions_of self.now.productions.now) →
             result ≡ last_place (productions_of self.now.productions.now) p }
     {
+        // (the `match` proves with no answer; of `map_or` it would have to be shown by hand which production its closure was called with)
         match self.productions.get(p) {
             Some(production) => self.first[p] + production.right().len() as u8,
             None => 0,
@@ -59,8 +59,7 @@ impl<'p, 'r> Source<'p, 'r> {
 
     // The last place of each production.
     pub(crate) fn lasts(&self) -> [u8; 32]
-        ensures whole { length result ≡ 32 }
-        ensures each { Lasts (productions_of self.now.productions.now) result }
+        ensures { Lasts (productions_of self.now.productions.now) result }
     {
         std::array::from_fn(|p| self.last(p))
     }

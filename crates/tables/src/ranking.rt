@@ -1,4 +1,4 @@
-ghost use Rattle.std.specs.Prelude.{◌≡◌, ℕ, ◌<◌, ◌≤◌, length, slice_index};
+ghost use Rattle.std.specs.Prelude.{◌≡◌, ℕ, ◌<◌, ◌≤◌, slice_index};
 ghost use Rattle.grammar.specs.Derivations.{Leads};
 ghost use Rattle.grammar.specs.Model.{productions as productions_of};
 ghost use Rattle.tables.specs.Ranks.{count_below, row_of};
@@ -17,7 +17,6 @@ fn rank(rows: &Rows, symbol: usize) -> u8
 impl Source<'_, '_> {
     // The rank of each nonterminal: the number of nonterminals that it leads to, in one step or more.
     pub(crate) fn ranks(&self) -> [u8; 16]
-        ensures whole { length result ≡ 16 }
         ensures falls { (A B : ℕ) →
             Leads (productions_of self.now.productions.now) A B →
             slice_index result B < slice_index result A }

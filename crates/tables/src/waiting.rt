@@ -8,11 +8,11 @@ ghost use Rattle.tables.specs.Entries.{AnyStart, Admits, Row, Tabulates, WaitsFo
 
 use crate::marking::mark_each;
 use crate::source::Source;
-use bitset::with;
+use bitset::choosing::chosen;
 
 impl Source<'_, '_> {
     // Whether the production q may stand at position k of the production p: its left side does, and there is no conflict.
-    // (p and k alone: a struct of them would hold the source)
+    // (p and k alone: only `admits` and `admitted` ask that there is such a position, two contracts)
     fn admits(&self, p: usize, k: usize, q: usize) -> bool
         requires parent { p < length self.now.productions.now }
         requires position { k < length (right_at (productions_of self.now.productions.now) p) }
@@ -33,14 +33,7 @@ impl Source<'_, '_> {
         ensures { AnyStart (productions_of self.now.productions.now) (rules_of self.now.rules.now)
             (λ g. (q : ℕ) → Has result q ↔ WaitsFor g p k q) }
     {
-        let mut set = 0;
-        // (for `chosen` the closure would have to repeat the clauses of `admits`, which speak of every start symbol)
-        for q in 0..self.productions.len() {
-            if self.admits(p, k, q) {
-                set = with(set, q);
-            }
-        }
-        set
+        chosen(0..self.productions.len(), |q| self.admits(p, k, q))
     }
 
     // Puts the places of the production p into the sets of the productions that may stand there.
@@ -58,8 +51,7 @@ impl Source<'_, '_> {
 
     // For each production the places whose next symbol it may be.
     pub(crate) fn waits(&self) -> [u64; 64]
-        ensures whole { length result ≡ 64 }
-        ensures holds { AnyStart (productions_of self.now.productions.now) (rules_of self.now.rules.now)
+        ensures { AnyStart (productions_of self.now.productions.now) (rules_of self.now.rules.now)
             (λ g. Tabulates g.productions (WaitsFor g) result) }
     {
         let mut waits = [0u64; 64];

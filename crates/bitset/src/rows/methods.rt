@@ -34,10 +34,7 @@ impl Rows {
         ensures yes { result ≡ true → Holds self.now p q }
         ensures no { result ≡ false → ¬ Holds self.now p q }
     {
-        if p >= 32 {
-            return false;
-        }
-        contains(self.rows[p], q)
+        p < 32 && contains(self.rows[p], q)
     }
 
     // Relates p to q where p is related to m and m to q.

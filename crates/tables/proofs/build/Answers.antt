@@ -1,4 +1,4 @@
-use Rattle.std.proofs.Common.{◌≡◌, length, sym, ap, ◌∙◌, arith}
+use Rattle.std.proofs.Common.{◌≡◌, length, sym, ap, ◌∙◌, arith, rules as steps}
 use Rattle.std.proofs.lemmas.List.{length-map}
 use Rattle.grammar.specs.Model.{production, productions, rules}
 use Rattle.tables.proofs.Building.{means, means_same}
@@ -16,16 +16,16 @@ invariant_of-result c =
     record {
       few = omega (arith, size, source.few);
       firsts = source.whole;
-      lasts = c.lasts.ensures.whole;
-      waiting = c.waits-waits.ensures.whole;
-      kinds = c.before-2.ensures.whole;
-      ranked = c.ranks.ensures.whole;
+      lasts = search steps;
+      waiting = search steps;
+      kinds = search steps;
+      ranked = search steps;
       low = λ k l.
           let known = known_at ps k (omega (arith, l, size)) in
           omega (arith, source.begins k known, last_low (productions ps) k known, source.small);
       high = λ k l.
           let known = known_at ps k (omega (arith, l, size)) in
-          omega (arith, c.lasts.ensures.each k known, last_low (productions ps) k known, source.small);
+          omega (arith, c.lasts.ensures k known, last_low (productions ps) k known, source.small);
     }
 
 pub returns : goal.returns
@@ -41,10 +41,10 @@ returns c =
       small = source.small;
       zero = c.new-source.ensures.zero;
       firsts = source.begins;
-      lasts = c.lasts.ensures.each;
-      waits = c.waits-waits.ensures.holds start;
-      before = c.before-2.ensures.holds;
-      live = c.live-live.ensures (rules rs) start (c.waits-waits.ensures.holds start);
+      lasts = c.lasts.ensures;
+      waits = c.waits-waits.ensures start;
+      before = c.before-2.ensures;
+      live = c.live-live.ensures (rules rs) start (c.waits-waits.ensures start);
       starts = c.starts.ensures;
       ranks = c.ranks.ensures.falls;
       ranks_small = c.ranks.ensures.small;

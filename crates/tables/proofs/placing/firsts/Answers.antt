@@ -38,4 +38,4 @@ loop-i-preserved c =
 pub returns : goal.returns
 returns c =
     let inv = c.loop-i.invariant in
-    record { whole = inv.0; zero = inv.2; each = λ p l. inv.3 p (omega (arith, stored_at c.args.productions.now p l, c.loop-i-test.false)) }
+    record { zero = inv.2; each = λ p l. inv.3 p (omega (arith, stored_at c.args.productions.now p l, c.loop-i-test.false)) }

@@ -1,4 +1,3 @@
-use Rattle.std.proofs.Common.{◌≡◌, length}
 use Rattle.grammar.specs.Model.{productions}
 use Rattle.derivations.specs.Steps.{Gathers}
 use Rattle.tables.specs.Entries.{Row, KindNext}
@@ -8,5 +7,4 @@ use Rattle.tables.proofs.source.Source.before.Given as goal
 
 abbrev pub invariant-loop-p : goal.invariant-loop-p
 invariant-loop-p l =
-    (length l.before ≡ 64)
-    × Gathers Nowhere (Marked l.before) l.p (Row (productions l.self.productions.now) (KindNext (productions l.self.productions.now)))
+    Gathers Nowhere (Marked l.before) l.p (Row (productions l.self.productions.now) (KindNext (productions l.self.productions.now)))

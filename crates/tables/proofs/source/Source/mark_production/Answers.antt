@@ -6,7 +6,7 @@ use Rattle.derivations.specs.Steps.{Gathers}
 use Rattle.derivations.proofs.Gathering.{gathers_more}
 use Rattle.tables.specs.Entries.{Entry, WaitsFor}
 use Rattle.tables.specs.Sets.{Marked}
-use Rattle.tables.proofs.Counting.{right_there, known_at, last_low}
+use Rattle.tables.proofs.Counting.{right_there, known_at, place_small}
 use Rattle.tables.proofs.Tabulating.{adds_same}
 use Rattle.tables.proofs.source.Source.mark_production.Goals as goal
 
@@ -22,15 +22,15 @@ admitted-requires c =
 -- the place of position k
 pub overflow_add-first : goal.overflow_add-first
 overflow_add-first c =
-    let ps = c.args.self.now.productions.now in
-    let size = ap length (right_there ps c.args.p c.index-self-p.result c.requires _ c.right-k-end.ensures) in
-    omega (arith, last_low (productions ps) c.args.p (known_at ps c.args.p c.requires), c.args.self.now.small, (c.args.self.now.begins c.args.p (known_at c.args.self.now.productions.now c.args.p c.requires)), size, c.loop-k-test.true)
+    let self = c.args.self.now in
+    let size = ap length (right_there self.productions.now c.args.p c.index-self-p.result c.requires _ c.right-k-end.ensures) in
+    omega (arith, place_small self.productions.now self.first c.args.p c.loop-k.k self.begins self.small c.requires (omega (arith, size, c.loop-k-test.true)))
 
 pub mark_each-requires : goal.mark_each-requires
 mark_each-requires c =
-    let ps = c.args.self.now.productions.now in
-    let size = ap length (right_there ps c.args.p c.index-self-p.result c.requires _ c.right-k-end.ensures) in
-    omega (arith, last_low (productions ps) c.args.p (known_at ps c.args.p c.requires), c.args.self.now.small, (c.args.self.now.begins c.args.p (known_at c.args.self.now.productions.now c.args.p c.requires)), size, c.loop-k-test.true)
+    let self = c.args.self.now in
+    let size = ap length (right_there self.productions.now c.args.p c.index-self-p.result c.requires _ c.right-k-end.ensures) in
+    omega (arith, place_small self.productions.now self.first c.args.p c.loop-k.k self.begins self.small c.requires (omega (arith, size, c.loop-k-test.true)))
 
 pub loop-k-preserved : goal.loop-k-preserved
 loop-k-preserved c start =

@@ -25,7 +25,6 @@ returns c =
     let on : (A B : ℕ) → Holds rows A B → Closure (Leads ps) A B = λ A B h. (same A B).0 ((c.close.ensures A B).0 h) in
     let back : (A B : ℕ) → Closure (Leads ps) A B → Holds rows A B = λ A B h. (c.close.ensures A B).1 ((same A B).1 h) in
     record {
-      whole = long;
       falls = λ A B step.
           let low : A < 16 = subst (λ n. n < 16) step.of (c.args.self.now.lefts step.by step.known) in
           let less =

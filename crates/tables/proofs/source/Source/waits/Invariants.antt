@@ -1,4 +1,3 @@
-use Rattle.std.proofs.Common.{◌≡◌, length}
 use Rattle.grammar.specs.Model.{productions, rules}
 use Rattle.derivations.specs.Steps.{Gathers}
 use Rattle.tables.specs.Entries.{AnyStart, Row, WaitsFor}
@@ -8,5 +7,4 @@ use Rattle.tables.proofs.source.Source.waits.Given as goal
 
 abbrev pub invariant-loop-p : goal.invariant-loop-p
 invariant-loop-p l =
-    (length l.waits ≡ 64)
-    × AnyStart (productions l.self.productions.now) (rules l.self.rules.now) (λ g. Gathers Nowhere (Marked l.waits) l.p (Row g.productions (WaitsFor g)))
+    AnyStart (productions l.self.productions.now) (rules l.self.rules.now) (λ g. Gathers Nowhere (Marked l.waits) l.p (Row g.productions (WaitsFor g)))
