@@ -1,12 +1,12 @@
 -- The steps on a column, and when a column is closed. Assumes nothing.
-use Rattle.std.specs.Prelude.{◌≡◌, ℕ, suc, ◌+◌, ◌*◌, ◌<◌, ◌≤◌, Bool, ◌⊎◌, List, slice_index}
+use Rattle.std.specs.Prelude.{◌≡◌, ℕ, suc, ◌+◌, ◌<◌, ◌≤◌, Bool, ◌⊎◌, List, slice_index}
 use Rattle.bitset.specs.Bits.{Has}
 use Rattle.grammar.specs.Grammar.{Grammar, Kind, At, left_of, right_of}
 use Rattle.grammar.specs.Items.{Live, Item}
 use Rattle.tables.specs.declared.tables.Tables.{Tables}
 use Rattle.tables.specs.Meaning.{first_of, last_of, Waits, Before, Alive, Means}
 use Rattle.chart.specs.Chart.{cell_of, Marked, Sound}
-use Rattle.chart.specs.Cells.{Grows, Meets}
+use Rattle.chart.specs.Cells.{Grows, Among}
 use Rattle.chart.specs.declared.items.Places.{Places}
 
 -- the cell k is not of column j
@@ -48,7 +48,7 @@ Predicted t j cells = (q : ℕ) → q < t.count → PredictionDone t j cells q
 
 -- if one of the places waits for the live production q, it begins at j
 abbrev pub Begun : Tables → ℕ → Places → List ℕ → ℕ → Type 0
-Begun t j p cells q = Alive t q → Meets p t.waits (2 * q) → Marked cells j j (first_of t q)
+Begun t j p cells q = Alive t q → (d : ℕ) → d < 128 → Among p d → Waits t q d → Marked cells j j (first_of t q)
 
 -- the items that end before n are marked
 abbrev pub Full : Tables → Grammar → List ℕ → List ℕ → ℕ → Type 0

@@ -22,9 +22,10 @@ fn complete(t: &Tables, cells: &mut Cells, s: usize, j: usize, q: usize) -> bool
     ensures moved { Moves t.now j cells.old cells.new result }
     ensures done { result ≡ false → AllMoved t.now s j q cells.new }
 {
+    let waiting = Places::of(&t.waits, q);
     let mut changed = false;
     for i in 0..=s {
-        changed |= advance(cells, i, s, j, &t.waits, q);
+        changed |= advance(cells, i, s, j, waiting);
     }
     changed
 }
@@ -74,7 +75,9 @@ fn predict(t: &Tables, cells: &mut Cells, j: usize, places: Places, q: usize) ->
     ensures moved { Moves t.now j cells.old cells.new result }
     ensures done { Begun t.now j places cells.new q }
 {
-    contains(t.live, q) && places.meets(&t.waits, q) && add(cells, j, j, usize::from(t.first[q]))
+    contains(t.live, q)
+        && places.meets(Places::of(&t.waits, q))
+        && add(cells, j, j, usize::from(t.first[q]))
 }
 
 // Predicts every live production that an item of column j waits for.

@@ -8,7 +8,7 @@ returns-then-meets-clause-moved c =
     let places = c.args.places in
     elim c.if-contains.branch [
       | then-contains w ↦
-          predicted c.args.t.now c.args.j c.args.q places c.args.cells.now _ _ (rw c.from.ensures at c.add.ensures) (omega arith) (omega arith)
-          (c.contains.ensures.yes w.if-contains.true) c.requires.seen (w.meets.ensures.yes (search rules))
+          predicted c.args.t.now c.args.j c.args.q places _ c.args.cells.now _ _ (rw c.from.ensures at c.add.ensures) (omega arith) (omega arith)
+          (c.contains.ensures.yes w.if-contains.true) c.requires.seen w.of.ensures (w.meets.ensures.yes (search rules))
       | else-contains w ↦ search rules
     ]

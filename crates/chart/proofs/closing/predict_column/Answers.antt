@@ -17,5 +17,5 @@ returns c = record {
   done = λ same q l alive i d li ld h w.
       let j = c.args.j in
       let back : Marked c.args.cells.now i j d = subst (λ x. Marked x i j d) (c.loop-q.invariant.0.growth.quiet same) h in
-      c.loop-q.invariant.1 same q (omega arith) alive (d, ld, c.gather-places.ensures.all i d li ld back, w);
+      c.loop-q.invariant.1 same q (omega arith) alive d ld (c.gather-places.ensures.all i d li ld back) w;
 }
