@@ -1,8 +1,8 @@
 //! Prediction and completion in a column, until nothing changes.
 //!
 //! Each call tells whether it changed the cells. All of a range are made, so the loops gather the answers by `|=`: `any` would
-//! stop at the first change. The tables, the cells and the column are parameters, since a struct that holds the lent cells would
-//! have to say in every contract that it keeps all three.
+//! stop at the first change. The cells are a parameter, since a struct that holds lent cells would have to say in every contract
+//! what else it keeps.
 
 ghost use Rattle.std.specs.Prelude.{◌≡◌, ◌+◌, ◌<◌, ◌≤◌, Bool, false};
 ghost use Rattle.tables.specs.Meaning.{last_of};
@@ -15,102 +15,110 @@ use crate::items::{Places, add, advance, gather, has};
 use bitset::contains;
 use tables::tables::Tables;
 
-// Completes the production q, which has a complete item from s to j: the items that wait for it at s move on to j.
-fn complete(t: &Tables, cells: &mut Cells, s: usize, j: usize, q: usize) -> bool
-    requires inside { (j ≤ 48) × ((s ≤ j) × (q < t.now.count)) }
-    requires whole { Marked cells.old s j (last_of t.now q) }
-    ensures moved { Moves t.now j cells.old cells.new result }
-    ensures done { result ≡ false → AllMoved t.now s j q cells.new }
-{
-    let waiting = Places::of(&t.waits, q);
-    let mut changed = false;
-    for i in 0..=s {
-        changed |= advance(cells, i, s, j, waiting);
+// The column of the items that end at `end`, and the tables that it is closed by.
+#[derive(Clone, Copy)]
+struct Column<'t> {
+    tables: &'t Tables,
+    end: usize,
+    ghost within: { end ≤ 48 },
+}
+
+impl<'t> Column<'t> {
+    // Completes the production q, which has a complete item from s to the end: the items that wait for it at s move on to the end.
+    fn complete(&self, cells: &mut Cells, s: usize, q: usize) -> bool
+        requires inside { (s ≤ self.now.end) × (q < self.now.tables.now.count) }
+        requires whole { Marked cells.old s self.now.end (last_of self.now.tables.now q) }
+        ensures moved { Moves self.now.tables.now self.now.end cells.old cells.new result }
+        ensures done { result ≡ false → AllMoved self.now.tables.now s self.now.end q cells.new }
+    {
+        let waiting = Places::of(&self.tables.waits, q);
+        let mut changed = false;
+        for i in 0..=s {
+            changed |= advance(cells, i, s, self.end, waiting);
+        }
+        changed
     }
-    changed
-}
 
-// Completes the production q, if it has a complete item from s to j.
-fn complete_if_whole(t: &Tables, cells: &mut Cells, s: usize, j: usize, q: usize) -> bool
-    requires inside { (j ≤ 48) × ((s ≤ j) × (q < t.now.count)) }
-    ensures moved { Moves t.now j cells.old cells.new result }
-    ensures done { result ≡ false → ProductionDone t.now s j cells.new q }
-{
-    has(cells, s, j, usize::from(t.last[q])) && complete(t, cells, s, j, q)
-}
-
-// Completes the productions that have a complete item from s to j.
-fn complete_origin(t: &Tables, cells: &mut Cells, s: usize, j: usize) -> bool
-    requires inside { (j ≤ 48) × (s ≤ j) }
-    ensures moved { Moves t.now j cells.old cells.new result }
-    ensures done { result ≡ false → OriginDone t.now j cells.new s }
-{
-    if Places::at(cells, s, j).is_empty() {
-        return false;
+    // Completes the production q, if it has a complete item from s to the end.
+    fn complete_if_whole(&self, cells: &mut Cells, s: usize, q: usize) -> bool
+        requires inside { (s ≤ self.now.end) × (q < self.now.tables.now.count) }
+        ensures moved { Moves self.now.tables.now self.now.end cells.old cells.new result }
+        ensures done { result ≡ false → ProductionDone self.now.tables.now s self.now.end cells.new q }
+    {
+        has(cells, s, self.end, usize::from(self.tables.last[q])) && self.complete(cells, s, q)
     }
-    let mut changed = false;
-    for q in 0..t.count {
-        changed |= complete_if_whole(t, cells, s, j, q);
+
+    // Completes the productions that have a complete item from s to the end.
+    fn complete_origin(&self, cells: &mut Cells, s: usize) -> bool
+        requires inside { s ≤ self.now.end }
+        ensures moved { Moves self.now.tables.now self.now.end cells.old cells.new result }
+        ensures done { result ≡ false → OriginDone self.now.tables.now self.now.end cells.new s }
+    {
+        if Places::at(cells, s, self.end).is_empty() {
+            return false;
+        }
+        let mut changed = false;
+        for q in 0..self.tables.count {
+            changed |= self.complete_if_whole(cells, s, q);
+        }
+        changed
     }
-    changed
-}
 
-// Completes every production that has a complete item in column j, the latest origins first.
-fn complete_column(t: &Tables, cells: &mut Cells, j: usize) -> bool
-    requires inside { j ≤ 48 }
-    ensures moved { Moves t.now j cells.old cells.new result }
-    ensures done { result ≡ false → Completed t.now j cells.new }
-{
-    let mut changed = false;
-    for s in (0..=j).rev() {
-        changed |= complete_origin(t, cells, s, j);
+    // Completes every production that has a complete item in the column, the latest origins first.
+    fn complete_column(&self, cells: &mut Cells) -> bool
+        ensures moved { Moves self.now.tables.now self.now.end cells.old cells.new result }
+        ensures done { result ≡ false → Completed self.now.tables.now self.now.end cells.new }
+    {
+        let mut changed = false;
+        for s in (0..=self.end).rev() {
+            changed |= self.complete_origin(cells, s);
+        }
+        changed
     }
-    changed
-}
 
-// Predicts the production q at j, if it is live and one of the places waits for it.
-fn predict(t: &Tables, cells: &mut Cells, j: usize, places: Places, q: usize) -> bool
-    requires inside { (j ≤ 48) × (q < t.now.count) }
-    requires seen { Seen cells.old j (j + 1) places }
-    ensures moved { Moves t.now j cells.old cells.new result }
-    ensures done { Begun t.now j places cells.new q }
-{
-    contains(t.live, q)
-        && places.meets(Places::of(&t.waits, q))
-        && add(cells, j, j, usize::from(t.first[q]))
-}
-
-// Predicts every live production that an item of column j waits for.
-fn predict_column(t: &Tables, cells: &mut Cells, j: usize) -> bool
-    requires inside { j ≤ 48 }
-    ensures moved { Moves t.now j cells.old cells.new result }
-    ensures done { result ≡ false → Predicted t.now j cells.new }
-{
-    let places = gather(cells, j);
-    let mut changed = false;
-    for q in 0..t.count {
-        changed |= predict(t, cells, j, places, q);
+    // Predicts the production q at the end, if it is live and one of the places waits for it.
+    fn predict(&self, cells: &mut Cells, places: Places, q: usize) -> bool
+        requires inside { q < self.now.tables.now.count }
+        requires seen { Seen cells.old self.now.end (self.now.end + 1) places }
+        ensures moved { Moves self.now.tables.now self.now.end cells.old cells.new result }
+        ensures done { Begun self.now.tables.now self.now.end places cells.new q }
+    {
+        contains(self.tables.live, q)
+            && places.meets(Places::of(&self.tables.waits, q))
+            && add(cells, self.end, self.end, usize::from(self.tables.first[q]))
     }
-    changed
+
+    // Predicts every live production that an item of the column waits for.
+    fn predict_column(&self, cells: &mut Cells) -> bool
+        ensures moved { Moves self.now.tables.now self.now.end cells.old cells.new result }
+        ensures done { result ≡ false → Predicted self.now.tables.now self.now.end cells.new }
+    {
+        let places = gather(cells, self.end);
+        let mut changed = false;
+        for q in 0..self.tables.count {
+            changed |= self.predict(cells, places, q);
+        }
+        changed
+    }
+
+    // Completes and predicts in the column once.
+    fn step(&self, cells: &mut Cells) -> bool
+        ensures moved { Moves self.now.tables.now self.now.end cells.old cells.new result }
+        ensures done { result ≡ false → Completed self.now.tables.now self.now.end cells.new × Predicted self.now.tables.now self.now.end cells.new }
+    {
+        let completed = self.complete_column(cells);
+        let predicted = self.predict_column(cells);
+        completed | predicted
+    }
 }
 
-// Completes and predicts in column j once.
-fn step(t: &Tables, cells: &mut Cells, j: usize) -> bool
-    requires inside { j ≤ 48 }
-    ensures moved { Moves t.now j cells.old cells.new result }
-    ensures done { result ≡ false → Completed t.now j cells.new × Predicted t.now j cells.new }
-{
-    let completed = complete_column(t, cells, j);
-    let predicted = predict_column(t, cells, j);
-    completed | predicted
-}
-
-// Completes and predicts in column j until nothing changes. (No call of bitset's `grown`: the step changes lent cells, and that
+// Completes and predicts in the column until nothing changes. (No call of bitset's `grown`: the step changes lent cells, and that
 // function steps a number.)
-pub(crate) fn close_column(t: &Tables, cells: &mut Cells, j: usize)
-    requires inside { j ≤ 48 }
-    ensures moved { (r : Bool) × Moves t.now j cells.old cells.new r }
-    ensures closed { Closes t.now j cells.old cells.new }
+pub(crate) fn close_column(tables: &Tables, cells: &mut Cells, end: usize)
+    requires inside { end ≤ 48 }
+    ensures moved { (r : Bool) × Moves tables.now end cells.old cells.new r }
+    ensures closed { Closes tables.now end cells.old cells.new }
 {
-    while step(t, cells, j) {}
+    let column = Column { tables, end };
+    while column.step(cells) {}
 }

@@ -4,5 +4,5 @@ use Rattle.chart.proofs.closing.close_column.Goals as goal
 
 pub returns-clause-closed : goal.returns-clause-closed
 returns-clause-closed c =
-    let done = c.step.ensures.done c.loop-test.false in
-    closes c.args.t.now c.args.j c.args.cells.now c.step.new.cells _ (moves_then c.loop.invariant.1 c.step.ensures.moved) done.0 done.1
+    let done = c.step.ensures.done c.loop-column-test.false in
+    closes c.args.tables.now c.args.end c.args.cells.now c.step.new.cells _ (moves_then c.loop-column.invariant.1 c.step.ensures.moved) done.0 done.1

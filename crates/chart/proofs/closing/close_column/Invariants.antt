@@ -3,8 +3,8 @@ use Rattle.chart.specs.Cells.{room}
 use Rattle.chart.specs.Columns.{Moves}
 use Rattle.chart.proofs.closing.close_column.Given as goal
 
-abbrev pub invariant-loop : goal.invariant-loop
-invariant-loop l = (r : Bool) × Moves l.t l.j l.initial.cells l.cells r
+abbrev pub invariant-loop-column : goal.invariant-loop-column
+invariant-loop-column l = (r : Bool) × Moves l.tables l.end l.initial.cells l.cells r
 
-abbrev pub decreases-loop : goal.decreases-loop
-decreases-loop l = room l.cells
+abbrev pub decreases-loop-column : goal.decreases-loop-column
+decreases-loop-column l = room l.cells

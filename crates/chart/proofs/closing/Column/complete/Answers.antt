@@ -7,7 +7,7 @@ use Rattle.chart.specs.Columns.{MovedOn}
 use Rattle.chart.specs.declared.items.Places.{Places}
 use Rattle.chart.proofs.Growing.{kept}
 use Rattle.chart.proofs.Steady.{Pass, pass_step, completed}
-use Rattle.chart.proofs.closing.complete.Goals as goal
+use Rattle.chart.proofs.closing.Column.complete.Goals as goal
 
 -- the items with origin i move on too
 one_more :
@@ -23,12 +23,12 @@ one_more t i s j q mask a b d was r is li ls lj lq whole old v =
 
 pub loop-i-preserved : goal.loop-i-preserved
 loop-i-preserved c =
-    one_more c.args.t.now c.loop-i.i c.args.s c.args.j c.args.q _ c.args.cells.now c.loop-i.cells _ _ _ c.of-waiting.ensures
+    one_more c.args.self.now.tables.now c.loop-i.i c.args.s c.args.self.now.end c.args.q _ c.args.cells.now c.loop-i.cells _ _ _ c.of-waiting.ensures
     (omega arith) (omega arith) (omega arith) (omega arith) c.requires.whole c.loop-i.invariant c.advance-changed.ensures
 
 pub returns-2 : goal.returns-2
 returns-2 c =
     let all =
-    one_more c.args.t.now c.loop-i.i c.args.s c.args.j c.args.q _ c.args.cells.now c.loop-i.cells _ _ _ c.of-waiting.ensures
+    one_more c.args.self.now.tables.now c.loop-i.i c.args.s c.args.self.now.end c.args.q _ c.args.cells.now c.loop-i.cells _ _ _ c.of-waiting.ensures
     (omega arith) (omega arith) (omega arith) (omega arith) c.requires.whole c.loop-i.invariant c.advance-changed.ensures in
     record { moved = all.0; done = λ same i l. all.1 same i (omega arith) }
