@@ -9,8 +9,9 @@ use Rattle.bitset.specs.Cells.{InSet}
 use Rattle.tables.specs.Meaning.{first_of, last_of, Waits, Alive}
 use Rattle.chart.specs.Chart.{cell_of, Marked, Sound}
 use Rattle.chart.specs.declared.items.Places.{Places}
+use Rattle.chart.specs.declared.column.Column.{Column}
 use Rattle.chart.specs.Cells.{Added, Advanced, Among, IsSet, Seen, Meets}
-use Rattle.chart.specs.Columns.{Outside, Moves, Scanned, Started}
+use Rattle.chart.specs.Columns.{Outside, Moves, Moved, Scanned, Started}
 use Rattle.chart.proofs.Growing.{then_grows, kept, same_set}
 use Rattle.chart.proofs.Bounds.{item_known, item_dot, item_at}
 use Rattle.chart.proofs.Places.{item_of}
@@ -145,14 +146,14 @@ started t p a b r v lp on = record {
 -- ---- a range of steps
 
 -- steps from a to b; if nothing changed, P holds of b for the numbers in D
-abbrev pub Pass : (List ℕ → ℕ → Type 0) → (ℕ → Type 0) → Tables → ℕ → List ℕ → List ℕ → Bool → Type 0
-Pass P D t j a b r = Moves t j a b r × (r ≡ false → (k : ℕ) → D k → P b k)
+abbrev pub Pass : (List ℕ → ℕ → Type 0) → (ℕ → Type 0) → Column → List ℕ → List ℕ → Bool → Type 0
+Pass P D col a b r = Moved col a b r × (r ≡ false → (k : ℕ) → D k → P b k)
 
 pub pass_step :
-    (P : List ℕ → ℕ → Type 0) (D E : ℕ → Type 0) {t : Tables} {j : ℕ} {a b c : List ℕ} {was r : Bool} (i : ℕ) →
+    (P : List ℕ → ℕ → Type 0) (D E : ℕ → Type 0) (col : Column) {a b c : List ℕ} {was r : Bool} (i : ℕ) →
     ((k : ℕ) → (¬ (k ≡ i)) → E k → D k) →
-    Pass P D t j a b was → Moves t j b c r → (r ≡ false → P c i) → Pass P E t j a c (was || r)
-pass_step P D E {b = b} {c = c} {was = was} {r = r} i more old new here = (
+    Pass P D col a b was → Moved col b c r → (r ≡ false → P c i) → Pass P E col a c (was || r)
+pass_step P D E col {b = b} {c = c} {was = was} {r = r} i more old new here = (
   moves_then old.0 new,
   λ off k l.
       let parts = or_parts was r off in

@@ -15,12 +15,12 @@ ghost use Rattle.theory.specs.Claims.{Awaited, Accepted};
 ghost use Rattle.chart.specs.Chart.{Marked, Charted, WhereCharted};
 ghost use Rattle.chart.specs.Columns.{Moves, Scanned, Ends};
 
-mod closing;
+mod column;
 pub mod items;
 
 use bitset::choosing::chosen;
 use bitset::contains;
-use closing::close_column;
+use column::closing::close_column;
 use items::{Places, add, advance, clear, gather, has};
 use tables::tables::Tables;
 

@@ -8,28 +8,21 @@ ghost use Rattle.std.specs.Prelude.{◌≡◌, ◌+◌, ◌<◌, ◌≤◌, Bool
 ghost use Rattle.tables.specs.Meaning.{last_of};
 ghost use Rattle.chart.specs.Chart.{Marked};
 ghost use Rattle.chart.specs.Cells.{Seen};
-ghost use Rattle.chart.specs.Columns.{Moves, AllMoved, ProductionDone, OriginDone, Completed, Begun, Predicted, Closes};
+ghost use Rattle.chart.specs.Columns.{Moves, Moved, AllMoved, ProductionDone, OriginDone, Completed, Begun, Predicted, Closes};
 
+use super::Column;
 use crate::Cells;
 use crate::items::{Places, add, advance, gather, has};
 use bitset::contains;
 use tables::tables::Tables;
-
-// The column of the items that end at `end`, and the tables that it is closed by.
-#[derive(Clone, Copy)]
-struct Column<'t> {
-    tables: &'t Tables,
-    end: usize,
-    ghost within: { end ≤ 48 },
-}
 
 impl<'t> Column<'t> {
     // Completes the production q, which has a complete item from s to the end: the items that wait for it at s move on to the end.
     fn complete(&self, cells: &mut Cells, s: usize, q: usize) -> bool
         requires inside { (s ≤ self.now.end) × (q < self.now.tables.now.count) }
         requires whole { Marked cells.old s self.now.end (last_of self.now.tables.now q) }
-        ensures moved { Moves self.now.tables.now self.now.end cells.old cells.new result }
-        ensures done { result ≡ false → AllMoved self.now.tables.now s self.now.end q cells.new }
+        ensures moved { Moved self.now cells.old cells.new result }
+        ensures done { result ≡ false → AllMoved self.now s q cells.new }
     {
         let waiting = Places::of(&self.tables.waits, q);
         let mut changed = false;
@@ -42,8 +35,8 @@ impl<'t> Column<'t> {
     // Completes the production q, if it has a complete item from s to the end.
     fn complete_if_whole(&self, cells: &mut Cells, s: usize, q: usize) -> bool
         requires inside { (s ≤ self.now.end) × (q < self.now.tables.now.count) }
-        ensures moved { Moves self.now.tables.now self.now.end cells.old cells.new result }
-        ensures done { result ≡ false → ProductionDone self.now.tables.now s self.now.end cells.new q }
+        ensures moved { Moved self.now cells.old cells.new result }
+        ensures done { result ≡ false → ProductionDone self.now s cells.new q }
     {
         has(cells, s, self.end, usize::from(self.tables.last[q])) && self.complete(cells, s, q)
     }
@@ -51,8 +44,8 @@ impl<'t> Column<'t> {
     // Completes the productions that have a complete item from s to the end.
     fn complete_origin(&self, cells: &mut Cells, s: usize) -> bool
         requires inside { s ≤ self.now.end }
-        ensures moved { Moves self.now.tables.now self.now.end cells.old cells.new result }
-        ensures done { result ≡ false → OriginDone self.now.tables.now self.now.end cells.new s }
+        ensures moved { Moved self.now cells.old cells.new result }
+        ensures done { result ≡ false → OriginDone self.now cells.new s }
     {
         if Places::at(cells, s, self.end).is_empty() {
             return false;
@@ -66,8 +59,8 @@ impl<'t> Column<'t> {
 
     // Completes every production that has a complete item in the column, the latest origins first.
     fn complete_column(&self, cells: &mut Cells) -> bool
-        ensures moved { Moves self.now.tables.now self.now.end cells.old cells.new result }
-        ensures done { result ≡ false → Completed self.now.tables.now self.now.end cells.new }
+        ensures moved { Moved self.now cells.old cells.new result }
+        ensures done { result ≡ false → Completed self.now cells.new }
     {
         let mut changed = false;
         for s in (0..=self.end).rev() {
@@ -80,8 +73,8 @@ impl<'t> Column<'t> {
     fn predict(&self, cells: &mut Cells, places: Places, q: usize) -> bool
         requires inside { q < self.now.tables.now.count }
         requires seen { Seen cells.old self.now.end (self.now.end + 1) places }
-        ensures moved { Moves self.now.tables.now self.now.end cells.old cells.new result }
-        ensures done { Begun self.now.tables.now self.now.end places cells.new q }
+        ensures moved { Moved self.now cells.old cells.new result }
+        ensures done { Begun self.now places cells.new q }
     {
         contains(self.tables.live, q)
             && places.meets(Places::of(&self.tables.waits, q))
@@ -90,8 +83,8 @@ impl<'t> Column<'t> {
 
     // Predicts every live production that an item of the column waits for.
     fn predict_column(&self, cells: &mut Cells) -> bool
-        ensures moved { Moves self.now.tables.now self.now.end cells.old cells.new result }
-        ensures done { result ≡ false → Predicted self.now.tables.now self.now.end cells.new }
+        ensures moved { Moved self.now cells.old cells.new result }
+        ensures done { result ≡ false → Predicted self.now cells.new }
     {
         let places = gather(cells, self.end);
         let mut changed = false;
@@ -103,8 +96,8 @@ impl<'t> Column<'t> {
 
     // Completes and predicts in the column once.
     fn step(&self, cells: &mut Cells) -> bool
-        ensures moved { Moves self.now.tables.now self.now.end cells.old cells.new result }
-        ensures done { result ≡ false → Completed self.now.tables.now self.now.end cells.new × Predicted self.now.tables.now self.now.end cells.new }
+        ensures moved { Moved self.now cells.old cells.new result }
+        ensures done { result ≡ false → Completed self.now cells.new × Predicted self.now cells.new }
     {
         let completed = self.complete_column(cells);
         let predicted = self.predict_column(cells);

@@ -2,13 +2,13 @@ use Rattle.std.proofs.Common.{◌+◌, ◌<◌, subst, arith}
 use Rattle.chart.specs.Chart.{Marked}
 use Rattle.chart.specs.Columns.{Begun}
 use Rattle.chart.proofs.Steady.{pass_step}
-use Rattle.chart.proofs.closing.Column.predict_column.Goals as goal
+use Rattle.chart.proofs.column.Column.predict_column.Goals as goal
 
 pub loop-q-preserved : goal.loop-q-preserved
 loop-q-preserved c =
     let q = c.loop-q.q in
     let v = c.predict-changed.ensures in
-    pass_step (Begun c.args.self.now.tables.now c.args.self.now.end _) (λ k. k < q) (λ k. k < q + 1) q (λ k n l. omega (arith, n))
+    pass_step (Begun c.args.self.now _) (λ k. k < q) (λ k. k < q + 1) c.args.self.now q (λ k n l. omega (arith, n))
     c.loop-q.invariant v.moved (λ _. v.done)
 
 pub returns : goal.returns

@@ -1,7 +1,7 @@
 use Rattle.std.proofs.Common.{arith, rules}
 use Rattle.chart.proofs.Steady.{predicted}
-use Rattle.chart.proofs.closing.Column.predict.Goals as goal
-use Rattle.chart.proofs.closing.Column.predict.Goals.{then-contains, else-contains}
+use Rattle.chart.proofs.column.Column.predict.Goals as goal
+use Rattle.chart.proofs.column.Column.predict.Goals.{then-contains, else-contains}
 
 pub returns-then-meets-clause-moved : goal.returns-then-meets-clause-moved
 returns-then-meets-clause-moved c =

@@ -1,7 +1,7 @@
 use Rattle.std.proofs.Common.{Bool}
 use Rattle.chart.specs.Cells.{room}
 use Rattle.chart.specs.Columns.{Moves}
-use Rattle.chart.proofs.closing.close_column.Given as goal
+use Rattle.chart.proofs.column.closing.close_column.Given as goal
 
 abbrev pub invariant-loop-column : goal.invariant-loop-column
 invariant-loop-column l = (r : Bool) × Moves l.tables l.end l.initial.cells l.cells r
