@@ -145,22 +145,21 @@ started t p a b r v lp on = record {
 
 -- ---- a range of steps
 
--- steps from a to b; if nothing changed, P holds of b for the numbers in D
-abbrev pub Pass : (List ℕ → ℕ → Type 0) → (ℕ → Type 0) → Column → List ℕ → List ℕ → Bool → Type 0
-Pass P D col a b r = Moved col a b r × (r ≡ false → (k : ℕ) → D k → P b k)
+-- steps from a to b; if nothing changed, P holds of b for the numbers below n
+abbrev pub Pass : (List ℕ → ℕ → Type 0) → Column → ℕ → List ℕ → List ℕ → Bool → Type 0
+Pass P col n a b r = Moved col a b r × (r ≡ false → (k : ℕ) → k < n → P b k)
 
 pub pass_step :
-    (P : List ℕ → ℕ → Type 0) (D E : ℕ → Type 0) (col : Column) {a b c : List ℕ} {was r : Bool} (i : ℕ) →
-    ((k : ℕ) → (¬ (k ≡ i)) → E k → D k) →
-    Pass P D col a b was → Moved col b c r → (r ≡ false → P c i) → Pass P E col a c (was || r)
-pass_step P D E col {b = b} {c = c} {was = was} {r = r} i more old new here = (
+    (P : List ℕ → ℕ → Type 0) (col : Column) (n : ℕ) {a b c : List ℕ} {was r : Bool} → Pass P col n a b was → Moved col b c r →
+    (r ≡ false → P c n) → Pass P col (n + 1) a c (was || r)
+pass_step P col n {b = b} {c = c} {was = was} {r = r} old new here = (
   moves_then old.0 new,
   λ off k l.
       let parts = or_parts was r off in
       ⊎_elim
-      (λ (e : k ≡ i). subst (P c) (sym e) (here parts.1))
-      (λ (n : ¬ (k ≡ i)). subst (λ x. P x k) (sym (new.growth.quiet parts.1)) (old.1 parts.0 k (more k n l)))
-      (cases_eq k i),
+      (λ (e : k ≡ n). subst (P c) (sym e) (here parts.1))
+      (λ (o : ¬ (k ≡ n)). subst (λ x. P x k) (sym (new.growth.quiet parts.1)) (old.1 parts.0 k (omega (arith, o))))
+      (cases_eq k n),
 )
 
 -- ---- the first items

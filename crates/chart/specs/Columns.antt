@@ -1,5 +1,6 @@
 -- The steps on a column, and when a column is closed. Assumes nothing.
-use Rattle.std.specs.Prelude.{◌≡◌, ℕ, suc, ◌+◌, ◌<◌, ◌≤◌, Bool, ◌⊎◌, List, slice_index}
+use Rattle.std.specs.Prelude.{◌≡◌, ℕ, suc, ◌+◌, ◌<◌, ◌≤◌, Bool, false, ◌⊎◌, List, slice_index}
+use Rattle.std.specs.Borrow.{MutBor}
 use Rattle.bitset.specs.Bits.{Has}
 use Rattle.grammar.specs.Grammar.{Grammar, Kind, At, left_of, right_of}
 use Rattle.grammar.specs.Items.{Live, Item}
@@ -23,6 +24,14 @@ pub record Moves (t : Tables) (j : ℕ) (a b : List ℕ) (r : Bool) : Type 0 whe
 -- a step in the column
 abbrev pub Moved : Column → List ℕ → List ℕ → Bool → Type 0
 Moved c a b r = Moves c.tables.now c.end a b r
+
+-- steps in the column lead from a to b
+abbrev pub Since : Column → List ℕ → List ℕ → Type 0
+Since c a b = (r : Bool) × Moved c a b r
+
+-- the step of the number k may leave the cells as they are, and say so
+abbrev pub Quiet : (MutBor (List ℕ) → ℕ → Bool → MutBor (List ℕ) → Type 0) → List ℕ → ℕ → Type 0
+Quiet post cells k = (a : MutBor (List ℕ)) × (b : MutBor (List ℕ)) × (a.now ≡ cells) × (b.now ≡ cells) × post a k false b
 
 -- the items with origin i that wait at s for the production q have moved on to the column
 abbrev pub MovedOn : Column → ℕ → ℕ → List ℕ → ℕ → Type 0

@@ -1,14 +1,13 @@
 //! Prediction and completion in a column, until nothing changes.
 //!
-//! Each call tells whether it changed the cells. All of a range are made, so the loops gather the answers by `|=`: `any` would
-//! stop at the first change. The cells are a parameter, since a struct that holds lent cells would have to say in every contract
-//! what else it keeps.
+//! Each call tells whether it changed the cells. They are a parameter, since a struct that holds lent cells would have to say in
+//! every contract that it keeps its other fields.
 
-ghost use Rattle.std.specs.Prelude.{◌≡◌, ◌+◌, ◌<◌, ◌≤◌, Bool, false};
+ghost use Rattle.std.specs.Prelude.{◌≡◌, ℕ, ◌+◌, ◌<◌, ◌≤◌, Bool, false};
 ghost use Rattle.tables.specs.Meaning.{last_of};
 ghost use Rattle.chart.specs.Chart.{Marked};
 ghost use Rattle.chart.specs.Cells.{Seen};
-ghost use Rattle.chart.specs.Columns.{Moves, Moved, AllMoved, ProductionDone, OriginDone, Completed, Begun, Predicted, Closes};
+ghost use Rattle.chart.specs.Columns.{Moves, Moved, Since, Quiet, AllMoved, ProductionDone, OriginDone, Completed, Begun, Predicted, Closes};
 
 use super::Column;
 use crate::Cells;
@@ -17,6 +16,27 @@ use bitset::contains;
 use tables::tables::Tables;
 
 impl<'t> Column<'t> {
+    // Makes the steps of all numbers below the count, and tells whether one of them changed the cells. (`any` would stop at the
+    // first change. Of lent cells that a closure of `fold` changes, a proof knows nothing.)
+    fn pass<F: Fn(&mut Cells, usize) -> bool>(
+        &self,
+        cells: &mut Cells,
+        count: usize,
+        step: F,
+    ) -> bool
+        requires callable { (a : _) (k : ℕ) → Since self.now cells.old a.now → k < count → F.pre step a k }
+        requires moves { (a : _) (k : ℕ) (r : Bool) (b : _) →
+            Since self.now cells.old a.now → k < count → F.post step a k r b → Moved self.now a.now b.now r }
+        ensures moved { Moved self.now cells.old cells.new result }
+        ensures done { result ≡ false → (k : ℕ) → k < count → Quiet (F.post step) cells.new k }
+    {
+        let mut changed = false;
+        for k in 0..count {
+            changed |= step(cells, k);
+        }
+        changed
+    }
+
     // Completes the production q, which has a complete item from s to the end: the items that wait for it at s move on to the end.
     fn complete(&self, cells: &mut Cells, s: usize, q: usize) -> bool
         requires inside { (s ≤ self.now.end) × (q < self.now.tables.now.count) }
@@ -25,11 +45,11 @@ impl<'t> Column<'t> {
         ensures done { result ≡ false → AllMoved self.now s q cells.new }
     {
         let waiting = Places::of(&self.tables.waits, q);
-        let mut changed = false;
-        for i in 0..=s {
-            changed |= advance(cells, i, s, self.end, waiting);
-        }
-        changed
+        self.pass(
+            cells,
+            s + 1,
+            |cells, i| advance(cells, i, s, self.end, waiting),
+        )
     }
 
     // Completes the production q, if it has a complete item from s to the end.
@@ -50,11 +70,11 @@ impl<'t> Column<'t> {
         if Places::at(cells, s, self.end).is_empty() {
             return false;
         }
-        let mut changed = false;
-        for q in 0..self.tables.count {
-            changed |= self.complete_if_whole(cells, s, q);
-        }
-        changed
+        self.pass(
+            cells,
+            self.tables.count,
+            |cells, q| self.complete_if_whole(cells, s, q),
+        )
     }
 
     // Completes every production that has a complete item in the column, the latest origins first.
@@ -62,11 +82,11 @@ impl<'t> Column<'t> {
         ensures moved { Moved self.now cells.old cells.new result }
         ensures done { result ≡ false → Completed self.now cells.new }
     {
-        let mut changed = false;
-        for s in (0..=self.end).rev() {
-            changed |= self.complete_origin(cells, s);
-        }
-        changed
+        self.pass(
+            cells,
+            self.end + 1,
+            |cells, back| self.complete_origin(cells, self.end - back),
+        )
     }
 
     // Predicts the production q at the end, if it is live and one of the places waits for it.
@@ -87,11 +107,11 @@ impl<'t> Column<'t> {
         ensures done { result ≡ false → Predicted self.now cells.new }
     {
         let places = gather(cells, self.end);
-        let mut changed = false;
-        for q in 0..self.tables.count {
-            changed |= self.predict(cells, places, q);
-        }
-        changed
+        self.pass(
+            cells,
+            self.tables.count,
+            |cells, q| self.predict(cells, places, q),
+        )
     }
 
     // Completes and predicts in the column once.

@@ -1,12 +1,11 @@
-use Rattle.std.proofs.Common.{◌+◌, ◌-◌, ◌<◌, arith}
+use Rattle.std.proofs.Common.{◌≡◌, ◌-◌, rules, arith, List, ℕ, subst}
 use Rattle.chart.specs.Columns.{OriginDone}
-use Rattle.chart.proofs.Steady.{pass_step}
 use Rattle.chart.proofs.column.Column.complete_column.Goals as goal
 
-pub loop-s-preserved : goal.loop-s-preserved
-loop-s-preserved c =
+pub returns-clause-done : goal.returns-clause-done
+returns-clause-done c same s l =
     let col = c.args.self.now in
-    let s = c.loop-s.s in
-    let v = c.complete_origin-changed.ensures in
-    pass_step (OriginDone col) (λ k. (s < k) × (k < col.end + 1)) (λ k. (s - 1 < k) × (k < col.end + 1)) col s
-    (λ k n l. let low = l.0 in let high = l.1 in (omega (arith, n), high)) c.loop-s.invariant v.moved v.done
+    let here = c.pass.ensures.done same (col.end - s) (omega arith) in
+    let done : OriginDone col here.1.now (col.end - (col.end - s)) = search rules in
+    let at : col.end - (col.end - s) ≡ s = omega arith in
+    subst (OriginDone col c.pass.new.cells) at (subst (λ (cells : List ℕ). OriginDone col cells (col.end - (col.end - s))) here.3 done)
