@@ -6,16 +6,23 @@ use Rattle.grammar.specs.Items.{Item, init, predict, scan, complete}
 use Rattle.tables.specs.declared.tables.Tables.{Tables}
 use Rattle.tables.specs.Meaning.{first_of, last_of, Means}
 use Rattle.chart.specs.Chart.{cell_of, Marked}
-use Rattle.chart.specs.Columns.{Moves, Completed, Predicted, Full, Based, Closes}
+use Rattle.chart.specs.declared.column.Column.{Column}
+use Rattle.chart.specs.Columns.{Moved, Completed, Predicted, Full, Based, Closes}
 use Rattle.chart.proofs.Growing.{kept}
 use Rattle.chart.proofs.Bounds.{live_known, item_known, item_dot, item_order}
 use Rattle.chart.proofs.Places.{place_low}
 
 module _
-    (t : Tables) (g : Grammar) (ws cells : List ℕ) (j : ℕ)
-    (m : Means t g) (based : Based t g ws cells j) (full : Full t g ws cells j)
-    (comp : Completed t j cells) (pred : Predicted t j cells)
+    (col : Column) (g : Grammar) (ws cells : List ℕ)
+    (m : Means col.tables.now g) (based : Based col.tables.now g ws cells col.end) (full : Full col.tables.now g ws cells col.end)
+    (comp : Completed col cells) (pred : Predicted col cells)
   where
+    abbrev t : Tables
+    t = col.tables.now
+
+    abbrev j : ℕ
+    j = col.end
+
     by_end : (p k i e : ℕ) → Item g ws p k i e → e ≤ j → (e ≡ j → Marked cells i e (first_of t p + k)) → Marked cells i e (first_of t p + k)
     by_end p k i e item le here =
         ⊎_elim (λ (l : e < j). full p k i e l item) (λ (l : j ≤ e). here (omega arith)) (cases_lt e j)
@@ -57,11 +64,14 @@ module _
         let sum : first_of t p + k + 1 ≡ first_of t p + suc k = omega arith in
         subst (λ z. Marked cells h z (first_of t p + suc k)) (sym same) (subst (Marked cells h j) sum r))
 
-pub closes : (t : Tables) (j : ℕ) (a b : List ℕ) (r : Bool) → Moves t j a b r → Completed t j b → Predicted t j b → Closes t j a b
-closes t j a b r v comp pred g ws m based full sound =
+pub closes :
+    (col : Column) (a b : List ℕ) (r : Bool) → Moved col a b r → Completed col b → Predicted col b → Closes col.tables.now col.end a b
+closes col a b r v comp pred g ws m based full sound =
+    let t = col.tables.now in
+    let j = col.end in
     let base : Based t g ws b j = record {
       inits = λ p z alive is. kept v.growth (cell_of 0 0) (first_of t p) (based.inits p z alive is);
       scans = λ p k h i x e item at kind here. kept v.growth (cell_of h j) (first_of t p + suc k) (based.scans p k h i x e item at kind here);
     } in
     let old : Full t g ws b j = λ p k i e l item. kept v.growth (cell_of i e) (first_of t p + k) (full p k i e l item) in
-    (λ p k i e l item. full_to t g ws b j m base old comp pred item (omega arith), v.sound g ws m sound)
+    (λ p k i e l item. full_to col g ws b m base old comp pred item (omega arith), v.sound g ws m sound)

@@ -186,10 +186,10 @@ joins to p a b e r h f g grows =
 -- ---- a set goes one place up
 
 pub advanced :
-    (to from : ℕ) (mask : List ℕ) (m : ℕ) (p n : Places) (a b : List ℕ) (r : Bool) →
-    ((d : ℕ) → d < 128 → Among p d ↔ (InSet a from d × InSet mask m d)) → (¬ Among n 0) →
-    ((d : ℕ) → d + 1 < 128 → Among n (d + 1) ↔ Among p d) → Joined to n a b r → Advanced to from mask m a b r
-advanced to from mask m p n a b r both none up j = record {
+    (to from : ℕ) (mask p n : Places) (a b : List ℕ) (r : Bool) →
+    ((d : ℕ) → d < 128 → Among p d ↔ (InSet a from d × Among mask d)) → (¬ Among n 0) →
+    ((d : ℕ) → d + 1 < 128 → Among n (d + 1) ↔ Among p d) → Joined to n a b r → Advanced to from mask a b r
+advanced to from mask p n a b r both none up j = record {
   growth = j.growth;
   other = j.other;
   makes = λ d l s t. (j.holds (d + 1) l).1 (inr ((up d l).1 ((both d (omega arith)).1 (s, t))));

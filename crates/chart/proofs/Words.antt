@@ -8,7 +8,7 @@ use Rattle.tables.specs.Meaning.{first_of, Before, Means}
 use Rattle.theory.specs.Claims.{Awaited, Accepted}
 use Rattle.chart.specs.Chart.{cell_of, Marked, Sound, Charted, WhereCharted}
 use Rattle.chart.specs.declared.items.Places.{Places}
-use Rattle.chart.specs.Cells.{Cleared, Gathered, Meets}
+use Rattle.chart.specs.Cells.{IsSet, Cleared, Gathered, Meets}
 use Rattle.chart.specs.Columns.{Full, Based, Closes, Scanned, Started, Ends}
 use Rattle.chart.proofs.Growing.{same_set, blank_set}
 use Rattle.chart.proofs.Bounds.{live_known, item_live, item_known, item_dot, item_order, item_end, at_last, item_more, item_front}
@@ -112,15 +112,16 @@ taken_back n b e ln cl t g ws a m len chart = record {
 -- ---- what a chart tells
 
 pub awaited :
-    (t : Tables) (n kind : ℕ) (ps : Places) (cells : List ℕ) → n ≤ 48 → kind < 32 → Gathered cells n (n + 1) ps →
-    WhereCharted t n cells (λ g ws. Meets ps t.before (2 * kind) ↔ Awaited g ws (16 + kind))
-awaited t n kind ps cells ln lk ga g ws m len chart = (
+    (t : Tables) (n kind : ℕ) (ps mask : Places) (cells : List ℕ) → n ≤ 48 → kind < 32 → Gathered cells n (n + 1) ps →
+    IsSet mask t.before kind →
+    WhereCharted t n cells (λ g ws. Meets ps mask ↔ Awaited g ws (16 + kind))
+awaited t n kind ps mask cells ln lk ga is g ws m len chart = (
   λ meets.
       let s = ga.only meets.0 meets.1 meets.2 in
       let li = s.1 in
       let x = chart.only s.0 n meets.0 (omega arith) ln meets.1 s.2 in
       let item = x.item in
-      let at = (m.befores x.production x.dot kind (item_known item) (item_dot item) lk).0 (subst (Before t kind) x.place meets.3) in
+      let at = (m.befores x.production x.dot kind (item_known item) (item_dot item) lk).0 (subst (Before t kind) x.place ((is meets.0 meets.1).0 meets.3)) in
       (x.production, x.dot, s.0, subst (Item g ws x.production x.dot s.0) (sym len) item, at),
   λ w.
       let p = w.0 in
@@ -131,7 +132,7 @@ awaited t n kind ps cells ln lk ga g ws m len chart = (
       let ld = item_dot item in
       let lo = item_order item in
       let low = place_low t g m p k kp ld in
-      (first_of t p + k, low, ga.all i (first_of t p + k) (omega arith) low (chart.all p k i n item), (m.befores p k kind kp ld lk).1 w.4),
+      (first_of t p + k, low, ga.all i (first_of t p + k) (omega arith) low (chart.all p k i n item), (is (first_of t p + k) low).1 ((m.befores p k kind kp ld lk).1 w.4)),
 )
 
 pub accepted :

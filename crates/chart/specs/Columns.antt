@@ -1,13 +1,15 @@
 -- The steps on a column, and when a column is closed. Assumes nothing.
-use Rattle.std.specs.Prelude.{◌≡◌, ℕ, suc, ◌+◌, ◌*◌, ◌<◌, ◌≤◌, Bool, ◌⊎◌, List, slice_index}
+use Rattle.std.specs.Prelude.{◌≡◌, ℕ, suc, ◌+◌, ◌<◌, ◌≤◌, Bool, false, ◌⊎◌, List, slice_index}
+use Rattle.std.specs.Borrow.{MutBor}
 use Rattle.bitset.specs.Bits.{Has}
 use Rattle.grammar.specs.Grammar.{Grammar, Kind, At, left_of, right_of}
 use Rattle.grammar.specs.Items.{Live, Item}
 use Rattle.tables.specs.declared.tables.Tables.{Tables}
 use Rattle.tables.specs.Meaning.{first_of, last_of, Waits, Before, Alive, Means}
 use Rattle.chart.specs.Chart.{cell_of, Marked, Sound}
-use Rattle.chart.specs.Cells.{Grows, Meets}
+use Rattle.chart.specs.Cells.{Grows, Among}
 use Rattle.chart.specs.declared.items.Places.{Places}
+use Rattle.chart.specs.declared.column.Column.{Column}
 
 -- the cell k is not of column j
 abbrev pub Outside : ℕ → ℕ → Type 0
@@ -19,36 +21,51 @@ pub record Moves (t : Tables) (j : ℕ) (a b : List ℕ) (r : Bool) : Type 0 whe
   pub other : (k : ℕ) → Outside j k → slice_index b k ≡ slice_index a k
   pub sound : (g : Grammar) (ws : List ℕ) → Means t g → Sound t g ws a → Sound t g ws b
 
--- the items with origin i that wait at s for the production q have moved on to j
-abbrev pub MovedOn : Tables → ℕ → ℕ → ℕ → List ℕ → ℕ → Type 0
-MovedOn t s j q cells i = (d : ℕ) → d + 1 < 128 → Marked cells i s d → Waits t q d → Marked cells i j (d + 1)
+-- a step in the column
+abbrev pub Moved : Column → List ℕ → List ℕ → Bool → Type 0
+Moved c a b r = Moves c.tables.now c.end a b r
 
-abbrev pub AllMoved : Tables → ℕ → ℕ → ℕ → List ℕ → Type 0
-AllMoved t s j q cells = (i : ℕ) → i < s + 1 → MovedOn t s j q cells i
+-- steps in the column lead from a to b
+abbrev pub Since : Column → List ℕ → List ℕ → Type 0
+Since c a b = (r : Bool) × Moved c a b r
 
--- if q is complete from s to j, the items that wait for it at s have moved on
-abbrev pub ProductionDone : Tables → ℕ → ℕ → List ℕ → ℕ → Type 0
-ProductionDone t s j cells q = Marked cells s j (last_of t q) → AllMoved t s j q cells
+-- the step of the number k may leave the cells as they are, and say so
+abbrev pub Quiet : (MutBor (List ℕ) → ℕ → Bool → MutBor (List ℕ) → Type 0) → List ℕ → ℕ → Type 0
+Quiet post cells k = (a : MutBor (List ℕ)) × (b : MutBor (List ℕ)) × (a.now ≡ cells) × (b.now ≡ cells) × post a k false b
 
-abbrev pub OriginDone : Tables → ℕ → List ℕ → ℕ → Type 0
-OriginDone t j cells s = (q : ℕ) → q < t.count → ProductionDone t s j cells q
+-- the items with origin i that wait at s for the production q have moved on to the column
+abbrev pub MovedOn : Column → ℕ → ℕ → List ℕ → ℕ → Type 0
+MovedOn c s q cells i = (d : ℕ) → d + 1 < 128 → Marked cells i s d → Waits c.tables.now q d → Marked cells i c.end (d + 1)
 
--- completion adds nothing more to column j
-abbrev pub Completed : Tables → ℕ → List ℕ → Type 0
-Completed t j cells = (s : ℕ) → s < j + 1 → OriginDone t j cells s
+abbrev pub AllMoved : Column → ℕ → ℕ → List ℕ → Type 0
+AllMoved c s q cells = (i : ℕ) → i < s + 1 → MovedOn c s q cells i
 
--- if the live production q is waited for in column j, it begins there
-abbrev pub PredictionDone : Tables → ℕ → List ℕ → ℕ → Type 0
-PredictionDone t j cells q =
-    Alive t q → (i d : ℕ) → i < j + 1 → d < 128 → Marked cells i j d → Waits t q d → Marked cells j j (first_of t q)
+-- if the column has q complete from s on, the items that wait for it at s have moved on
+abbrev pub ProductionDone : Column → ℕ → List ℕ → ℕ → Type 0
+ProductionDone c s cells q = Marked cells s c.end (last_of c.tables.now q) → AllMoved c s q cells
 
--- prediction adds nothing more to column j
-abbrev pub Predicted : Tables → ℕ → List ℕ → Type 0
-Predicted t j cells = (q : ℕ) → q < t.count → PredictionDone t j cells q
+abbrev pub OriginDone : Column → List ℕ → ℕ → Type 0
+OriginDone c cells s = (q : ℕ) → q < c.tables.now.count → ProductionDone c s cells q
 
--- if one of the places waits for the live production q, it begins at j
-abbrev pub Begun : Tables → ℕ → Places → List ℕ → ℕ → Type 0
-Begun t j p cells q = Alive t q → Meets p t.waits (2 * q) → Marked cells j j (first_of t q)
+-- completion adds nothing more to the column
+abbrev pub Completed : Column → List ℕ → Type 0
+Completed c cells = (s : ℕ) → s < c.end + 1 → OriginDone c cells s
+
+-- if the live production q is waited for in the column, it begins there
+abbrev pub PredictionDone : Column → List ℕ → ℕ → Type 0
+PredictionDone c cells q =
+    Alive c.tables.now q → (i d : ℕ) → i < c.end + 1 → d < 128 → Marked cells i c.end d → Waits c.tables.now q d →
+    Marked cells c.end c.end (first_of c.tables.now q)
+
+-- prediction adds nothing more to the column
+abbrev pub Predicted : Column → List ℕ → Type 0
+Predicted c cells = (q : ℕ) → q < c.tables.now.count → PredictionDone c cells q
+
+-- if one of the places waits for the live production q, it begins in the column
+abbrev pub Begun : Column → Places → List ℕ → ℕ → Type 0
+Begun c p cells q =
+    Alive c.tables.now q → (d : ℕ) → d < 128 → Among p d → Waits c.tables.now q d →
+    Marked cells c.end c.end (first_of c.tables.now q)
 
 -- the items that end before n are marked
 abbrev pub Full : Tables → Grammar → List ℕ → List ℕ → ℕ → Type 0

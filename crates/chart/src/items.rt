@@ -3,9 +3,8 @@
 //! Bounds stand in each contract: a struct of origin and end would be made anew in each loop.
 
 ghost use Rattle.std.specs.Prelude.{◌≡◌, ℕ, ◌+◌, ◌*◌, ◌<◌, ◌≤◌, true, false, ◌⊎◌, ◌↔◌, length};
-ghost use Rattle.bitset.specs.Cells.{InSet};
 ghost use Rattle.chart.specs.Chart.{cell_of, Marked};
-ghost use Rattle.chart.specs.Cells.{Among, Added, Joined, Advanced, Cleared, Gathered, Meets};
+ghost use Rattle.chart.specs.Cells.{Among, IsSet, Added, Joined, Advanced, Cleared, Gathered, Meets};
 
 use crate::Cells;
 use bitset::cells::{is_marked, join, mark};
@@ -27,9 +26,9 @@ fn set_of(i: usize, j: usize) -> usize
 
 impl Places {
     // The set of number x in the cells.
-    fn of(cells: &[u64], x: usize) -> Places
+    pub(crate) fn of(cells: &[u64], x: usize) -> Places
         requires { 2 * x + 1 < length cells.now }
-        ensures { (d : ℕ) → d < 128 → Among result d ↔ InSet cells.now (2 * x) d }
+        ensures { IsSet result cells.now x }
     {
         Places {
             low: cells[2 * x],
@@ -84,13 +83,12 @@ impl Places {
         self.low | self.high == 0
     }
 
-    // Whether one of the places is in the set of number x in the mask.
-    pub(crate) fn meets(self, mask: &[u64], x: usize) -> bool
-        requires { 2 * x + 1 < length mask.now }
-        ensures yes { result ≡ true → Meets self mask.now (2 * x) }
-        ensures no { result ≡ false → ¬ Meets self mask.now (2 * x) }
+    // Whether there is a place that is in both sets.
+    pub(crate) fn meets(self, other: Places) -> bool
+        ensures yes { result ≡ true → Meets self other }
+        ensures no { result ≡ false → ¬ Meets self other }
     {
-        !self.and(Places::of(mask, x)).is_empty()
+        !self.and(other).is_empty()
     }
 
     // Adds the places to the set of number x in the cells, and tells whether that changed them.
@@ -121,20 +119,13 @@ pub(crate) fn add(cells: &mut Cells, i: usize, j: usize, d: usize) -> bool
     mark(cells, set_of(i, j), d)
 }
 
-// Moves the dot over one symbol: for each item with origin i and end s whose place is in the set of number x in the mask,
-// adds the item with end j and the next place. Tells whether that changed the cells.
-pub(crate) fn advance(
-    cells: &mut Cells,
-    i: usize,
-    s: usize,
-    j: usize,
-    mask: &[u64],
-    x: usize,
-) -> bool
-    requires inside { (i ≤ 48) × ((s ≤ 48) × ((j ≤ 48) × (2 * x + 1 < length mask.now))) }
-    ensures { Advanced (cell_of i j) (cell_of i s) mask.now (2 * x) cells.old cells.new result }
+// Moves the dot over one symbol: for each item with origin i and end s whose place is in the mask, adds the item with end j
+// and the next place. Tells whether that changed the cells.
+pub(crate) fn advance(cells: &mut Cells, i: usize, s: usize, j: usize, mask: Places) -> bool
+    requires inside { (i ≤ 48) × ((s ≤ 48) × (j ≤ 48)) }
+    ensures { Advanced (cell_of i j) (cell_of i s) mask cells.old cells.new result }
 {
-    let moved = Places::at(cells, i, s).and(Places::of(mask, x));
+    let moved = Places::at(cells, i, s).and(mask);
     !moved.is_empty() && moved.next().join(cells, set_of(i, j))
 }
 

@@ -15,13 +15,13 @@ ghost use Rattle.theory.specs.Claims.{Awaited, Accepted};
 ghost use Rattle.chart.specs.Chart.{Marked, Charted, WhereCharted};
 ghost use Rattle.chart.specs.Columns.{Moves, Scanned, Ends};
 
-mod closing;
+mod column;
 pub mod items;
 
 use bitset::choosing::chosen;
 use bitset::contains;
-use closing::close_column;
-use items::{add, advance, clear, gather, has};
+use column::closing::close_column;
+use items::{Places, add, advance, clear, gather, has};
 use tables::tables::Tables;
 
 // How many cells a chart has: two for each origin and each end.
@@ -54,8 +54,9 @@ fn scan(t: &Tables, cells: &mut Cells, j: usize, kind: usize)
     requires inside { (j < 48) × (kind < 32) }
     ensures { Scanned t.now j kind (j + 1) cells.old cells.new }
 {
+    let waiting = Places::of(&t.before, kind);
     for i in 0..=j {
-        advance(cells, i, j, j + 1, &t.before, kind);
+        advance(cells, i, j, j + 1, waiting);
     }
 }
 
@@ -69,7 +70,7 @@ pub fn put(t: &Tables, cells: &mut Cells, n: usize, kind: usize) -> bool
         (cells.new ≡ cells.old)
         × WhereCharted t.now n cells.old (λ g ws. ¬ Awaited g ws (16 + kind)) }
 {
-    if !gather(cells, n).meets(&t.before, kind) {
+    if !gather(cells, n).meets(Places::of(&t.before, kind)) {
         return false;
     }
     scan(t, cells, n, kind);
@@ -114,5 +115,5 @@ pub fn expected_kinds(t: &Tables, cells: &Cells, n: usize) -> u32
         (λ g ws. (b : ℕ) → b < 32 → Has result b ↔ Awaited g ws (16 + b)) }
 {
     let places = gather(cells, n);
-    chosen(0..32, |kind| places.meets(&t.before, kind))
+    chosen(0..32, |kind| places.meets(Places::of(&t.before, kind)))
 }

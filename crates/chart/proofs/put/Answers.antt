@@ -9,7 +9,7 @@ returns-then-not-meets c = record {
     refl,
     λ g ws m len chart w.
         c.meets.ensures.no c.if-not-meets.true
-        ((awaited c.args.t.now c.args.n c.args.kind _ c.args.cells.now (omega arith) (omega arith) c.gather.ensures
+        ((awaited c.args.t.now c.args.n c.args.kind _ _ c.args.cells.now (omega arith) (omega arith) c.gather.ensures c.of.ensures
         g ws m len chart).1 w),
   );
 }
@@ -22,7 +22,7 @@ returns c =
     let cells = c.args.cells.now in
     record {
       taken = λ _ g ws m len chart. (
-        (awaited t n kind _ cells (omega arith) (omega arith) c.gather.ensures g ws m len chart).0
+        (awaited t n kind _ _ cells (omega arith) (omega arith) c.gather.ensures c.of.ensures g ws m len chart).0
             (c.meets.ensures.yes c.if-not-meets.false),
         put_charted t n kind (omega arith) cells c.scan.new.cells c.close_column.new.cells
             c.scan.ensures c.close_column.ensures.closed g ws m len chart,

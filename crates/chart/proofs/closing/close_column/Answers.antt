@@ -1,8 +1,0 @@
-use Rattle.chart.proofs.Steady.{moves_then}
-use Rattle.chart.proofs.Columns.{closes}
-use Rattle.chart.proofs.closing.close_column.Goals as goal
-
-pub returns-clause-closed : goal.returns-clause-closed
-returns-clause-closed c =
-    let done = c.step.ensures.done c.loop-test.false in
-    closes c.args.t.now c.args.j c.args.cells.now c.step.new.cells _ (moves_then c.loop.invariant.1 c.step.ensures.moved) done.0 done.1

@@ -1,7 +1,0 @@
-use Rattle.std.proofs.Common.{◌<◌}
-use Rattle.chart.specs.Columns.{ProductionDone}
-use Rattle.chart.proofs.Steady.{Pass}
-use Rattle.chart.proofs.closing.complete_origin.Given as goal
-
-abbrev pub invariant-loop-q : goal.invariant-loop-q
-invariant-loop-q l = Pass (ProductionDone l.t l.s l.j) (λ k. k < l.q) l.t l.j l.initial.cells l.cells l.changed
