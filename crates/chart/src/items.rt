@@ -1,6 +1,6 @@
 //! Items in the cells of a chart, by origin, end and place, and sets of places.
 //!
-//! Bounds stand in each contract: a struct of origin and end would be made anew in each loop.
+//! Origins and ends are numbers here, as in the public contract of `has`, so their bounds stand in each contract.
 
 ghost use Rattle.std.specs.Prelude.{◌≡◌, ℕ, ◌+◌, ◌*◌, ◌<◌, ◌≤◌, true, false, ◌⊎◌, ◌↔◌, length};
 ghost use Rattle.chart.specs.Chart.{cell_of, Marked};
