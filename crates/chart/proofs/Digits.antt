@@ -1,21 +1,13 @@
 -- Bits of `&`, and of the shifts that move a set of places one place up.
 use Rattle.std.proofs.Common.{◌≡◌, ℕ, zero, suc, ◌+◌, ◌-◌, ◌*◌, ◌/◌, ◌%◌, ◌^◌, ◌<◌, ◌≤◌, min, ◌↔◌, sym, ap, ◌∙◌, ⊎_elim, add-one, arith}
 use lib.Bits.{bit_and, and_step, and_shr}
-use Rattle.std.proofs.lemmas.Nat.{shl-shr, shr-shr, field_of, pow-add, pow_pos, shr_below, div_below, le-div, mod-pow-add}
-use Rattle.std.proofs.lemmas.Bool.{cases_lt, cases_eq}
+use Rattle.std.proofs.lemmas.Nat.{shl-shr, shr-shr, field_of, pow-add, pow_pos, div_below, le-div, mod-pow-add}
+use Rattle.std.proofs.lemmas.Bool.{cases_lt}
 use Rattle.bitset.specs.Bits.{bit, Has}
 
 bit_below : (c d : ℕ) → bit c d < 2
 unfolding bit
 bit_below c d = omega arith
-
-pub same_bit : (a d b e : ℕ) → (Has a d → Has b e) → (Has b e → Has a d) → bit a d ≡ bit b e
-same_bit a d b e to from =
-    ⊎_elim (λ (h : Has a d). h ∙ sym (to h))
-    (λ n.
-    let m : ¬ Has b e = λ h. n (from h) in
-    omega (arith, n, m, bit_below a d, bit_below b e))
-    (cases_eq (bit a d) 1)
 
 -- `&`
 and_low : (x y : ℕ) → bit_and x y % 2 ≡ min (x % 2) (y % 2)
@@ -31,19 +23,19 @@ and_has a b d = (
   λ h. omega (arith, bit_of_and a b d, h.0, h.1),
 )
 
--- `<< 1` of 64 bits
-pub none_at_zero : (c : ℕ) → ¬ Has (c * 2 ^ 1 % 2 ^ 64) 0
+-- `<< 1` of 128 bits
+pub none_at_zero : (c : ℕ) → ¬ Has (c * 2 ^ 1 % 2 ^ 128) 0
 unfolding bit
 none_at_zero c h = omega arith
 
-mod_low_bit : (n j : ℕ) → n % 2 ^ (j + 1) % 2 ≡ n % 2
+pub mod_low_bit : (n j : ℕ) → n % 2 ^ (j + 1) % 2 ≡ n % 2
 mod_low_bit n j = omega (arith, mod-pow-add n j 1)
 
-pub bit_up : (c d : ℕ) → d + 1 < 64 → bit (c * 2 ^ 1 % 2 ^ 64) (d + 1) ≡ bit c d
+pub bit_up : (c d : ℕ) → d + 1 < 128 → bit (c * 2 ^ 1 % 2 ^ 128) (d + 1) ≡ bit c d
 unfolding bit
 bit_up c d h =
-    let j = 62 - d in
-    let w : 64 ≡ (j + 1) + (d + 1) = omega arith in
+    let j = 126 - d in
+    let w : 128 ≡ (j + 1) + (d + 1) = omega arith in
     let one : d + 1 ≡ 1 + d = omega arith in
     ap (λ (k : ℕ). c * 2 ^ 1 % 2 ^ k / 2 ^ (d + 1) % 2) w
     ∙ ap (λ n. n % 2) (field_of (c * 2 ^ 1) (j + 1) (d + 1))
@@ -51,17 +43,6 @@ bit_up c d h =
     ∙ ap (λ (k : ℕ). c * 2 ^ 1 / 2 ^ k % 2) one
     ∙ ap (λ n. n % 2) (sym (shr-shr (c * 2 ^ 1) 1 d))
     ∙ ap (λ n. n / 2 ^ d % 2) (shl-shr c 1)
-
--- `>> 63` of 64 bits
-pub bit_top : (c : ℕ) → bit (c / 2 ^ 63) 0 ≡ bit c 63
-unfolding bit
-bit_top c = ap (λ n. n % 2) (shr-shr c 63 0)
-
-pub top_below : (c d : ℕ) → c < 2 ^ 64 → c / 2 ^ 63 < 2 ^ (d + 1)
-top_below c d h =
-    let s : c / 2 ^ 63 < 2 ^ 1 = shr_below c 1 63 h in
-    let p : 2 ^ 1 ≤ 2 ^ (d + 1) = omega (arith, pow-add 2 d 1, pow_pos d) in
-    omega arith
 
 -- a number that is not 0 has a bit
 pub some_bit : (k n : ℕ) → n < 2 ^ k → 0 < n → (d : ℕ) × (d < k) × Has n d

@@ -1,16 +1,15 @@
 -- Bits that come into cells.
-use Rattle.std.proofs.Common.{◌≡◌, ℕ, ◌+◌, ◌-◌, ◌/◌, ◌%◌, ◌^◌, ◌<◌, ◌≤◌, Bool, true, false, cond, not, ◌||◌, eqb, ◌≢◌, ◌↔◌, List, length, get_or, set, sym, refl, ap, ◌∙◌, subst, inl, inr, ⊎_elim, arith, length-set, get_or-set_other, get_or-set_same}
+use Rattle.std.proofs.Common.{◌≡◌, ℕ, ◌+◌, ◌-◌, ◌/◌, ◌%◌, ◌^◌, ◌<◌, ◌≤◌, Bool, true, false, cond, not, ◌||◌, eqb, ◌≢◌, ◌⊎◌, ◌↔◌, List, length, get_or, set, sym, refl, ap, ◌∙◌, subst, inl, inr, ⊎_elim, arith, length-set, get_or-set_other, get_or-set_same}
 use lib.Seq.{set-get_or}
-use lib.Bits.{bit_or, or_lt}
+use lib.Bits.{bit_or, bit_and, or_lt}
 use Rattle.std.proofs.lemmas.Nat.{pow_below}
 use Rattle.std.proofs.lemmas.List.Sums.{sum_by-set}
 use Rattle.std.proofs.lemmas.Bool.{cases_eq, cases_Bool, eqb-true, eqb-false, or_parts, not-false}
-use Rattle.bitset.specs.Bits.{Has}
+use Rattle.bitset.specs.Bits.{bit, Has}
 use Rattle.bitset.proofs.Digits.{none_of_zero, or_has, or_one_has, or_grows}
 use Rattle.bitset.specs.Cells.{InSet}
-use Rattle.chart.specs.declared.items.Places.{Places}
-use Rattle.chart.specs.Cells.{pair, Among, room, Grows, Added, Joined, Advanced}
-use Rattle.chart.proofs.Pairs.{to_pair, from_pair, pair_or}
+use Rattle.chart.specs.Cells.{room, Grows, Added, Joined, Advanced}
+use Rattle.chart.proofs.Halves.{by_half, low_cell, high_cell, low_half, high_half}
 
 -- ---- nothing is lost
 
@@ -161,45 +160,46 @@ written to lo hi a b e h p q =
       rest = λ k n o. two k o ∙ one k n;
     }
 
-pub joins : (to : ℕ) (p : Places) (a b e : List ℕ) (r : Bool) → to + 1 < length a →
-    b ≡ set a to (bit_or (get_or a to 0) p.low) → e ≡ set b (to + 1) (bit_or (get_or b (to + 1) 0) p.high) → Grows a e r →
-    Joined to p a e r
+-- of one bit: what was there, or what was joined
+one_bit : (now was p x w d : ℕ) → now ≡ bit (bit_or x w) d → was ≡ bit x d → bit w d ≡ p → (now ≡ 1) ↔ ((was ≡ 1) ⊎ (p ≡ 1))
+one_bit now was p x w d e f g = (
+  λ s. ⊎_elim (λ (old : Has x d). inl (f ∙ old)) (λ (new : Has w d). inr (sym g ∙ new)) ((or_has x w d).0 (sym e ∙ s)),
+  λ o. e ∙ (or_has x w d).1 (⊎_elim (λ (old : was ≡ 1). inl (sym f ∙ old)) (λ (new : p ≡ 1). inr (g ∙ new)) o),
+)
+
+pub joins : (to p : ℕ) (a b e : List ℕ) (r : Bool) → to + 1 < length a →
+    b ≡ set a to (bit_or (get_or a to 0) (bit_and p (2 ^ 64 - 1))) → e ≡ set b (to + 1) (bit_or (get_or b (to + 1) 0) (p / 2 ^ 64)) →
+    Grows a e r → Joined to p a e r
 joins to p a b e r h f g grows =
-    let w = written to p.low p.high a b e h f g in
-    let x = get_or a to 0 in
-    let y = get_or a (to + 1) 0 in
-    let here : (d : ℕ) → pair (get_or e to 0) (get_or e (to + 1) 0) d ≡ pair (bit_or x p.low) (bit_or y p.high) d
-    = λ d. ap (λ n. pair n (get_or e (to + 1) 0) d) w.low ∙ ap (λ n. pair (bit_or x p.low) n d) w.high in
+    let lo = bit_and p (2 ^ 64 - 1) in
+    let hi = p / 2 ^ 64 in
+    let w = written to lo hi a b e h f g in
     record {
       growth = grows;
       other = w.rest;
-      holds = λ d l. (
-        λ s.
-            ⊎_elim (λ old. inl (from_pair a to d l old)) (λ (new : Among p d). inr new)
-            ((pair_or x y p.low p.high d l).0 (sym (here d) ∙ to_pair e to d l s)),
-        λ o.
-            from_pair e to d l
-            (here d ∙ (pair_or x y p.low p.high d l).1 (⊎_elim (λ old. inl (to_pair a to d l old)) (λ (new : Among p d). inr new) o)),
-      );
+      holds = by_half (λ d. InSet e to d ↔ (InSet a to d ⊎ Has p d))
+          (λ d l. one_bit _ _ _ (get_or a to 0) lo d (low_cell e to d l ∙ ap (λ n. bit n d) w.low) (low_cell a to d l) (low_half p d l))
+          (λ d l.
+          one_bit _ _ _ (get_or a (to + 1) 0) hi d (high_cell e to d l ∙ ap (λ n. bit n d) w.high) (high_cell a to d l) (high_half p d));
     }
 
 -- ---- a set goes one place up
 
 pub advanced :
-    (to from : ℕ) (mask p n : Places) (a b : List ℕ) (r : Bool) →
-    ((d : ℕ) → d < 128 → Among p d ↔ (InSet a from d × Among mask d)) → (¬ Among n 0) →
-    ((d : ℕ) → d + 1 < 128 → Among n (d + 1) ↔ Among p d) → Joined to n a b r → Advanced to from mask a b r
+    (to from : ℕ) (mask p n : ℕ) (a b : List ℕ) (r : Bool) →
+    ((d : ℕ) → d < 128 → Has p d ↔ (InSet a from d × Has mask d)) → (¬ Has n 0) →
+    ((d : ℕ) → d + 1 < 128 → Has n (d + 1) ↔ Has p d) → Joined to n a b r → Advanced to from mask a b r
 advanced to from mask p n a b r both none up j = record {
   growth = j.growth;
   other = j.other;
   makes = λ d l s t. (j.holds (d + 1) l).1 (inr ((up d l).1 ((both d (omega arith)).1 (s, t))));
   only = λ d l s.
       ⊎_elim (λ (old : InSet a to d). inl old)
-      (λ (new : Among n d). inr (
-      let pos : ¬ (d ≡ 0) = λ z. none (subst (Among n) z new) in
+      (λ (new : Has n d). inr (
+      let pos : ¬ (d ≡ 0) = λ z. none (subst (Has n) z new) in
       let e = d - 1 in
       let q : d ≡ e + 1 = omega (arith, pos) in
-      let was = (both e (omega arith)).0 ((up e (omega arith)).0 (subst (Among n) q new)) in
+      let was = (both e (omega arith)).0 ((up e (omega arith)).0 (subst (Has n) q new)) in
       (e, q, was.0, was.1)))
       ((j.holds d l).0 s);
 }

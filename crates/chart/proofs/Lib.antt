@@ -1,5 +1,5 @@
 pub mod Digits
-pub mod Pairs
+pub mod Halves
 pub mod Growing
 pub mod Bounds
 pub mod Places

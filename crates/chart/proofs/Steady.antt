@@ -8,9 +8,8 @@ use Rattle.tables.specs.declared.tables.Tables.{Tables}
 use Rattle.bitset.specs.Cells.{InSet}
 use Rattle.tables.specs.Meaning.{first_of, last_of, Waits, Alive}
 use Rattle.chart.specs.Chart.{cell_of, Marked, Sound}
-use Rattle.chart.specs.declared.items.Places.{Places}
 use Rattle.chart.specs.declared.column.Column.{Column}
-use Rattle.chart.specs.Cells.{Added, Advanced, Among, IsSet, Seen, Meets}
+use Rattle.chart.specs.Cells.{Added, Advanced, IsSet, Seen, Meets}
 use Rattle.chart.specs.Columns.{Outside, Moves, Moved, Scanned, Started}
 use Rattle.chart.proofs.Growing.{then_grows, kept, same_set}
 use Rattle.chart.proofs.Bounds.{item_known, item_dot, item_at}
@@ -18,9 +17,9 @@ use Rattle.chart.proofs.Places.{item_of}
 
 -- ---- new marks are derivable items
 
-advanced_sound : (t : Tables) (g : Grammar) (ws : List ℕ) (i s j : ℕ) (mask : Places) (a b : List ℕ) (r : Bool) →
+advanced_sound : (t : Tables) (g : Grammar) (ws : List ℕ) (i s j : ℕ) (mask : ℕ) (a b : List ℕ) (r : Bool) →
     Advanced (cell_of i j) (cell_of i s) mask a b r → i ≤ 48 → s ≤ 48 → j ≤ 48 →
-    ((p k : ℕ) → Item g ws p k i s → first_of t p + k < 128 → Among mask (first_of t p + k) → Item g ws p (suc k) i j) →
+    ((p k : ℕ) → Item g ws p k i s → first_of t p + k < 128 → Has mask (first_of t p + k) → Item g ws p (suc k) i j) →
     Sound t g ws a → Sound t g ws b
 advanced_sound t g ws i s j mask a b r v li ls lj next sound h e d lh le ld mark =
     ⊎_elim
@@ -29,12 +28,12 @@ advanced_sound t g ws i s j mask a b r v li ls lj next sound h e d lh le ld mark
     let hi : h ≡ i = omega arith in
     ⊎_elim
     (λ (old : Marked a i j d). sound h e d lh le ld (subst (λ x. InSet a x d) (sym same) old))
-    (λ (new : (x : ℕ) × (d ≡ x + 1) × Marked a i s x × Among mask x).
+    (λ (new : (x : ℕ) × (d ≡ x + 1) × Marked a i s x × Has mask x).
     let up : d ≡ new.0 + 1 = new.1 in
     let was = sound i s new.0 li ls (omega arith) new.2 in
     let place : new.0 ≡ first_of t was.production + was.dot = was.place in
     let item : Item g ws was.production (suc was.dot) i j
-    = next was.production was.dot was.item (omega arith) (subst (Among mask) was.place new.3) in
+    = next was.production was.dot was.item (omega arith) (subst (Has mask) was.place new.3) in
     record {
       production = was.production;
       dot = suc was.dot;
@@ -76,7 +75,7 @@ not_outside : (i j k z : ℕ) → i ≤ 48 → z < 2 → Outside j k → ¬ (k �
 not_outside i j k z li lz o e = ⊎_elim {C = ⊥} (λ (x : k < cell_of 0 j). omega arith) (λ (x : cell_of 0 (j + 1) ≤ k). omega arith) o
 
 outside_advanced :
-    (i s j : ℕ) (mask : Places) (a b : List ℕ) (r : Bool) → Advanced (cell_of i j) (cell_of i s) mask a b r → i ≤ 48 →
+    (i s j : ℕ) (mask : ℕ) (a b : List ℕ) (r : Bool) → Advanced (cell_of i j) (cell_of i s) mask a b r → i ≤ 48 →
     (k : ℕ) → Outside j k → get_or b k 0 ≡ get_or a k 0
 outside_advanced i s j mask a b r v li k o =
     v.other k (λ e. not_outside i j k 0 li (omega arith) o (omega arith)) (not_outside i j k 1 li (omega arith) o)
@@ -98,7 +97,7 @@ moves_then f h = record {
 
 -- completion of q, whole from s to j, at the origin i
 pub completed :
-    (t : Tables) (i s j q : ℕ) (mask : Places) (a b : List ℕ) (r : Bool) → IsSet mask t.waits q →
+    (t : Tables) (i s j q : ℕ) (mask : ℕ) (a b : List ℕ) (r : Bool) → IsSet mask t.waits q →
     Advanced (cell_of i j) (cell_of i s) mask a b r →
     i ≤ s → s ≤ j → j ≤ 48 → q < t.count → Marked a s j (last_of t q) → Moves t j a b r
 completed t i s j q mask a b r is v li ls lj lq whole = record {
@@ -115,7 +114,7 @@ completed t i s j q mask a b r is v li ls lj lq whole = record {
 }
 
 -- prediction of q at j
-pub predicted : (t : Tables) (j q : ℕ) (ps mask : Places) (a b : List ℕ) (r : Bool) → Added (cell_of j j) (first_of t q) a b r →
+pub predicted : (t : Tables) (j q : ℕ) (ps mask : ℕ) (a b : List ℕ) (r : Bool) → Added (cell_of j j) (first_of t q) a b r →
     j ≤ 48 → q < t.count → Alive t q → Seen a j (j + 1) ps → IsSet mask t.waits q → Meets ps mask → Moves t j a b r
 predicted t j q ps mask a b r v lj lq alive seen is meets = record {
   growth = v.growth;
@@ -177,7 +176,7 @@ started_more t n a b c r s v here = record {
 -- ---- scanning
 
 pub scanned_more :
-    (t : Tables) (j kind n : ℕ) (mask : Places) (a b c : List ℕ) (r : Bool) → j < 48 → kind < 32 → n < j + 1 →
+    (t : Tables) (j kind n : ℕ) (mask : ℕ) (a b c : List ℕ) (r : Bool) → j < 48 → kind < 32 → n < j + 1 →
     IsSet mask t.before kind →
     Scanned t j kind n a b →
     Advanced (cell_of n (j + 1)) (cell_of n j) mask b c r → Scanned t j kind (n + 1) a c

@@ -7,7 +7,6 @@ use Rattle.tables.specs.declared.tables.Tables.{Tables}
 use Rattle.tables.specs.Meaning.{first_of, Before, Means}
 use Rattle.theory.specs.Claims.{Awaited, Accepted}
 use Rattle.chart.specs.Chart.{cell_of, Marked, Sound, Charted, WhereCharted}
-use Rattle.chart.specs.declared.items.Places.{Places}
 use Rattle.chart.specs.Cells.{IsSet, Cleared, Gathered, Meets}
 use Rattle.chart.specs.Columns.{Full, Based, Closes, Scanned, Started, Ends}
 use Rattle.chart.proofs.Growing.{same_set, blank_set}
@@ -112,7 +111,7 @@ taken_back n b e ln cl t g ws a m len chart = record {
 -- ---- what a chart tells
 
 pub awaited :
-    (t : Tables) (n kind : ℕ) (ps mask : Places) (cells : List ℕ) → n ≤ 48 → kind < 32 → Gathered cells n (n + 1) ps →
+    (t : Tables) (n kind : ℕ) (ps mask : ℕ) (cells : List ℕ) → n ≤ 48 → kind < 32 → Gathered cells n (n + 1) ps →
     IsSet mask t.before kind →
     WhereCharted t n cells (λ g ws. Meets ps mask ↔ Awaited g ws (16 + kind))
 awaited t n kind ps mask cells ln lk ga is g ws m len chart = (

@@ -1,21 +1,12 @@
--- Sets of places in cells and in pairs of words: what comes in, and what is left out. Assumes nothing.
-use Rattle.std.specs.Prelude.{◌≡◌, ℕ, ◌+◌, ◌-◌, ◌*◌, ◌/◌, ◌%◌, ◌^◌, ◌<◌, ◌≤◌, Bool, false, cond, ◌⊎◌, ◌↔◌, List, [], ◌∷◌, sum_by, slice_index}
-use Rattle.bitset.specs.Bits.{bit, Has}
+-- Sets of places, as numbers and in cells: what comes in, and what is left out. Assumes nothing.
+use Rattle.std.specs.Prelude.{◌≡◌, ℕ, ◌+◌, ◌-◌, ◌*◌, ◌/◌, ◌^◌, ◌<◌, ◌≤◌, Bool, false, cond, ◌⊎◌, ◌↔◌, List, sum_by, slice_index}
+use Rattle.bitset.specs.Bits.{Has}
 use Rattle.bitset.specs.Cells.{InSet}
 use Rattle.chart.specs.Chart.{Marked}
-use Rattle.chart.specs.declared.items.Places.{Places}
-
--- the bit of the place d in a set of two words
-abbrev pub pair : ℕ → ℕ → ℕ → ℕ
-pair low high d = bit (slice_index (low ∷ high ∷ []) (d / 64)) (d % 64)
-
--- the place d is one of the places
-abbrev pub Among : Places → ℕ → Type 0
-Among p d = pair p.low p.high d ≡ 1
 
 -- the places are the set of number x in the cells
-abbrev pub IsSet : Places → List ℕ → ℕ → Type 0
-IsSet p cells x = (d : ℕ) → d < 128 → Among p d ↔ InSet cells (2 * x) d
+abbrev pub IsSet : ℕ → List ℕ → ℕ → Type 0
+IsSet p cells x = (d : ℕ) → d < 128 → Has p d ↔ InSet cells (2 * x) d
 
 -- how much the cells may still grow
 unfoldable pub room : List ℕ → ℕ
@@ -35,11 +26,11 @@ pub record Added (to d : ℕ) (a b : List ℕ) (r : Bool) : Type 0 where
   pub only : (e : ℕ) → e < 128 → InSet b to e → InSet a to e ⊎ (e ≡ d)
 
 -- the places of the set at `from` that are in the mask come into the set at `to`, each one place up
-pub record Advanced (to from : ℕ) (mask : Places) (a b : List ℕ) (r : Bool) : Type 0 where
+pub record Advanced (to from : ℕ) (mask : ℕ) (a b : List ℕ) (r : Bool) : Type 0 where
   pub growth : Grows a b r
   pub other : (k : ℕ) → (¬ (k ≡ to)) → (¬ (k ≡ to + 1)) → slice_index b k ≡ slice_index a k
-  pub makes : (d : ℕ) → d + 1 < 128 → InSet a from d → Among mask d → InSet b to (d + 1)
-  pub only : (d : ℕ) → d < 128 → InSet b to d → InSet a to d ⊎ ((e : ℕ) × (d ≡ e + 1) × InSet a from e × Among mask e)
+  pub makes : (d : ℕ) → d + 1 < 128 → InSet a from d → Has mask d → InSet b to (d + 1)
+  pub only : (d : ℕ) → d < 128 → InSet b to d → InSet a to d ⊎ ((e : ℕ) × (d ≡ e + 1) × InSet a from e × Has mask e)
 
 -- the cells from `start` to `end` are 0, and the others as they were
 pub record Cleared (start end : ℕ) (a b : List ℕ) : Type 0 where
@@ -47,20 +38,20 @@ pub record Cleared (start end : ℕ) (a b : List ℕ) : Type 0 where
   pub blank : (k : ℕ) → start ≤ k → k < end → slice_index b k ≡ 0
 
 -- the places come into the set at `to`
-pub record Joined (to : ℕ) (p : Places) (a b : List ℕ) (r : Bool) : Type 0 where
+pub record Joined (to : ℕ) (p : ℕ) (a b : List ℕ) (r : Bool) : Type 0 where
   pub growth : Grows a b r
   pub other : (k : ℕ) → (¬ (k ≡ to)) → (¬ (k ≡ to + 1)) → slice_index b k ≡ slice_index a k
-  pub holds : (d : ℕ) → d < 128 → InSet b to d ↔ (InSet a to d ⊎ Among p d)
+  pub holds : (d : ℕ) → d < 128 → InSet b to d ↔ (InSet a to d ⊎ Has p d)
 
 -- each place is marked in column j at an origin before n
-abbrev pub Seen : List ℕ → ℕ → ℕ → Places → Type 0
-Seen cells j n p = (d : ℕ) → d < 128 → Among p d → (i : ℕ) × (i < n) × Marked cells i j d
+abbrev pub Seen : List ℕ → ℕ → ℕ → ℕ → Type 0
+Seen cells j n p = (d : ℕ) → d < 128 → Has p d → (i : ℕ) × (i < n) × Marked cells i j d
 
 -- the places are just those that column j marks at the origins before n
-pub record Gathered (cells : List ℕ) (j n : ℕ) (p : Places) : Type 0 where
-  pub all : (i d : ℕ) → i < n → d < 128 → Marked cells i j d → Among p d
+pub record Gathered (cells : List ℕ) (j n : ℕ) (p : ℕ) : Type 0 where
+  pub all : (i d : ℕ) → i < n → d < 128 → Marked cells i j d → Has p d
   pub only : Seen cells j n p
 
 -- there is a place that is in both sets
-abbrev pub Meets : Places → Places → Type 0
-Meets p q = (d : ℕ) × (d < 128) × Among p d × Among q d
+abbrev pub Meets : ℕ → ℕ → Type 0
+Meets p q = (d : ℕ) × (d < 128) × Has p d × Has q d

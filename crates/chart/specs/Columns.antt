@@ -7,8 +7,7 @@ use Rattle.grammar.specs.Items.{Live, Item}
 use Rattle.tables.specs.declared.tables.Tables.{Tables}
 use Rattle.tables.specs.Meaning.{first_of, last_of, Waits, Before, Alive, Means}
 use Rattle.chart.specs.Chart.{cell_of, Marked, Sound}
-use Rattle.chart.specs.Cells.{Grows, Among}
-use Rattle.chart.specs.declared.items.Places.{Places}
+use Rattle.chart.specs.Cells.{Grows}
 use Rattle.chart.specs.declared.column.Column.{Column}
 
 -- the cell k is not of column j
@@ -62,9 +61,9 @@ abbrev pub Predicted : Column → List ℕ → Type 0
 Predicted c cells = (q : ℕ) → q < c.tables.now.count → PredictionDone c cells q
 
 -- if one of the places waits for the live production q, it begins in the column
-abbrev pub Begun : Column → Places → List ℕ → ℕ → Type 0
+abbrev pub Begun : Column → ℕ → List ℕ → ℕ → Type 0
 Begun c p cells q =
-    Alive c.tables.now q → (d : ℕ) → d < 128 → Among p d → Waits c.tables.now q d →
+    Alive c.tables.now q → (d : ℕ) → d < 128 → Has p d → Waits c.tables.now q d →
     Marked cells c.end c.end (first_of c.tables.now q)
 
 -- the items that end before n are marked

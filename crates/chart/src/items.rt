@@ -1,20 +1,16 @@
 //! Items in the cells of a chart, by origin, end and place, and sets of places.
 //!
-//! Bounds stand in each contract: a struct of origin and end would be made anew in each loop.
+//! Origins and ends are numbers here, as in the public contract of `has`, so their bounds stand in each contract.
 
 ghost use Rattle.std.specs.Prelude.{◌≡◌, ℕ, ◌+◌, ◌*◌, ◌<◌, ◌≤◌, true, false, ◌⊎◌, ◌↔◌, length};
 ghost use Rattle.chart.specs.Chart.{cell_of, Marked};
-ghost use Rattle.chart.specs.Cells.{Among, IsSet, Added, Joined, Advanced, Cleared, Gathered, Meets};
+ghost use Rattle.chart.specs.Cells.{IsSet, Added, Joined, Advanced, Cleared, Gathered, Meets};
 
 use crate::Cells;
 use bitset::cells::{is_marked, join, mark};
 
-// A set of places: the place d is bit d of `low`, or bit d - 64 of `high`.
-#[derive(Clone, Copy)]
-pub(crate) struct Places {
-    low: u64,
-    high: u64,
-}
+// A set of places: the place d is bit d.
+pub(crate) type Places = u128;
 
 // The number of the set of the items with origin i and end j.
 fn set_of(i: usize, j: usize) -> usize
@@ -24,82 +20,30 @@ fn set_of(i: usize, j: usize) -> usize
     49 * j + i
 }
 
-impl Places {
-    // The set of number x in the cells.
-    pub(crate) fn of(cells: &[u64], x: usize) -> Places
-        requires { 2 * x + 1 < length cells.now }
-        ensures { IsSet result cells.now x }
-    {
-        Places {
-            low: cells[2 * x],
-            high: cells[2 * x + 1],
-        }
-    }
+// The set of number x in the cells.
+pub(crate) fn places_of(cells: &[u64], x: usize) -> Places
+    requires { 2 * x + 1 < length cells.now }
+    ensures { IsSet result cells.now x }
+{
+    u128::from(cells[2 * x]) | (u128::from(cells[2 * x + 1]) << 64)
+}
 
-    // The places of the items with origin i and end j.
-    pub(crate) fn at(cells: &Cells, i: usize, j: usize) -> Places
-        requires { (i ≤ 48) × (j ≤ 48) }
-        ensures { (d : ℕ) → d < 128 → Among result d ↔ Marked cells.now i j d }
-    {
-        Places::of(cells, set_of(i, j))
-    }
+// The places of the items with origin i and end j.
+pub(crate) fn places_at(cells: &Cells, i: usize, j: usize) -> Places
+    requires { (i ≤ 48) × (j ≤ 48) }
+    ensures { IsSet result cells.now (49 * j + i) }
+{
+    places_of(cells, set_of(i, j))
+}
 
-    // The places that are in one of the sets.
-    fn or(self, other: Places) -> Places
-        ensures { (d : ℕ) → d < 128 → Among result d ↔ (Among self d ⊎ Among other d) }
-    {
-        Places {
-            low: self.low | other.low,
-            high: self.high | other.high,
-        }
-    }
-
-    // The places that are in both sets.
-    fn and(self, other: Places) -> Places
-        ensures { (d : ℕ) → d < 128 → Among result d ↔ (Among self d × Among other d) }
-    {
-        Places {
-            low: self.low & other.low,
-            high: self.high & other.high,
-        }
-    }
-
-    // Each place one up.
-    fn next(self) -> Places
-        ensures none { ¬ Among result 0 }
-        ensures up { (d : ℕ) → d + 1 < 128 → Among result (d + 1) ↔ Among self d }
-    {
-        Places {
-            low: self.low << 1,
-            high: (self.high << 1) | (self.low >> 63),
-        }
-    }
-
-    // Whether there is no place in the set.
-    pub(crate) fn is_empty(self) -> bool
-        ensures yes { result ≡ true → (d : ℕ) → d < 128 → ¬ Among self d }
-        ensures no { result ≡ false → (d : ℕ) × (d < 128) × Among self d }
-    {
-        self.low | self.high == 0
-    }
-
-    // Whether there is a place that is in both sets.
-    pub(crate) fn meets(self, other: Places) -> bool
-        ensures yes { result ≡ true → Meets self other }
-        ensures no { result ≡ false → ¬ Meets self other }
-    {
-        !self.and(other).is_empty()
-    }
-
-    // Adds the places to the set of number x in the cells, and tells whether that changed them.
-    fn join(self, cells: &mut Cells, x: usize) -> bool
-        requires { x < 2401 }
-        ensures { Joined (2 * x) self cells.old cells.new result }
-    {
-        let one = join(cells, 2 * x, self.low);
-        let two = join(cells, 2 * x + 1, self.high);
-        one | two
-    }
+// Adds the places to the set of number x in the cells, and tells whether that changed them.
+fn join_places(cells: &mut Cells, x: usize, places: Places) -> bool
+    requires { x < 2401 }
+    ensures { Joined (2 * x) places cells.old cells.new result }
+{
+    let one = join(cells, 2 * x, (places & u128::from(u64::MAX)) as u64);
+    let two = join(cells, 2 * x + 1, (places >> 64) as u64);
+    one | two
 }
 
 // Whether the item with origin i, end j and the place d is in the chart.
@@ -125,8 +69,8 @@ pub(crate) fn advance(cells: &mut Cells, i: usize, s: usize, j: usize, mask: Pla
     requires inside { (i ≤ 48) × ((s ≤ 48) × (j ≤ 48)) }
     ensures { Advanced (cell_of i j) (cell_of i s) mask cells.old cells.new result }
 {
-    let moved = Places::at(cells, i, s).and(mask);
-    !moved.is_empty() && moved.next().join(cells, set_of(i, j))
+    let moved = places_at(cells, i, s) & mask;
+    moved != 0 && join_places(cells, set_of(i, j), moved << 1)
 }
 
 // The places of the items of column j, of any origin.
@@ -134,10 +78,7 @@ pub(crate) fn gather(cells: &Cells, j: usize) -> Places
     requires inside { j ≤ 48 }
     ensures { Gathered cells.now j (j + 1) result }
 {
-    (0..=j).fold(
-        Places { low: 0, high: 0 },
-        |all, i| all.or(Places::at(cells, i, j)),
-    )
+    (0..=j).fold(0, |all, i| all | places_at(cells, i, j))
 }
 
 // Empties the cells from `start` to `end`.

@@ -21,7 +21,7 @@ pub mod items;
 use bitset::choosing::chosen;
 use bitset::contains;
 use column::closing::close_column;
-use items::{Places, add, advance, clear, gather, has};
+use items::{add, advance, clear, gather, has, places_of};
 use tables::tables::Tables;
 
 // How many cells a chart has: two for each origin and each end.
@@ -54,7 +54,7 @@ fn scan(t: &Tables, cells: &mut Cells, j: usize, kind: usize)
     requires inside { (j < 48) × (kind < 32) }
     ensures { Scanned t.now j kind (j + 1) cells.old cells.new }
 {
-    let waiting = Places::of(&t.before, kind);
+    let waiting = places_of(&t.before, kind);
     for i in 0..=j {
         advance(cells, i, j, j + 1, waiting);
     }
@@ -70,7 +70,7 @@ pub fn put(t: &Tables, cells: &mut Cells, n: usize, kind: usize) -> bool
         (cells.new ≡ cells.old)
         × WhereCharted t.now n cells.old (λ g ws. ¬ Awaited g ws (16 + kind)) }
 {
-    if !gather(cells, n).meets(Places::of(&t.before, kind)) {
+    if gather(cells, n) & places_of(&t.before, kind) == 0 {
         return false;
     }
     scan(t, cells, n, kind);
@@ -115,5 +115,5 @@ pub fn expected_kinds(t: &Tables, cells: &Cells, n: usize) -> u32
         (λ g ws. (b : ℕ) → b < 32 → Has result b ↔ Awaited g ws (16 + b)) }
 {
     let places = gather(cells, n);
-    chosen(0..32, |kind| places.meets(Places::of(&t.before, kind)))
+    chosen(0..32, |kind| places & places_of(&t.before, kind) != 0)
 }

@@ -7,7 +7,7 @@ pub loop-i-preserved : goal.loop-i-preserved
 loop-i-preserved c =
     scanned_more c.args.t.now c.args.j c.args.kind c.loop-i.i _ c.args.cells.now c.loop-i.cells
     _ _ (omega arith) (omega arith)
-    (omega arith) c.of-waiting.ensures c.loop-i.invariant c.advance.ensures
+    (omega arith) c.places_of-waiting.ensures c.loop-i.invariant c.advance.ensures
 
 pub returns-2 : goal.returns-2
 returns-2 c =
@@ -15,4 +15,4 @@ returns-2 c =
     subst (λ n. Scanned c.args.t.now c.args.j c.args.kind (n + 1) c.args.cells.now c.advance.new.cells) e
     (scanned_more c.args.t.now c.args.j c.args.kind c.loop-i.i _ c.args.cells.now c.loop-i.cells
     _ _ (omega arith) (omega arith)
-    (omega arith) c.of-waiting.ensures c.loop-i.invariant c.advance.ensures)
+    (omega arith) c.places_of-waiting.ensures c.loop-i.invariant c.advance.ensures)

@@ -11,7 +11,7 @@ ghost use Rattle.chart.specs.Columns.{Moves, Moved, Since, Quiet, AllMoved, Prod
 
 use super::Column;
 use crate::Cells;
-use crate::items::{Places, add, advance, gather, has};
+use crate::items::{Places, add, advance, gather, has, places_at, places_of};
 use bitset::contains;
 use tables::tables::Tables;
 
@@ -44,7 +44,7 @@ impl<'t> Column<'t> {
         ensures moved { Moved self.now cells.old cells.new result }
         ensures done { result ≡ false → AllMoved self.now s q cells.new }
     {
-        let waiting = Places::of(&self.tables.waits, q);
+        let waiting = places_of(&self.tables.waits, q);
         self.pass(
             cells,
             s + 1,
@@ -67,7 +67,7 @@ impl<'t> Column<'t> {
         ensures moved { Moved self.now cells.old cells.new result }
         ensures done { result ≡ false → OriginDone self.now cells.new s }
     {
-        if Places::at(cells, s, self.end).is_empty() {
+        if places_at(cells, s, self.end) == 0 {
             return false;
         }
         self.pass(
@@ -97,7 +97,7 @@ impl<'t> Column<'t> {
         ensures done { Begun self.now places cells.new q }
     {
         contains(self.tables.live, q)
-            && places.meets(Places::of(&self.tables.waits, q))
+            && places & places_of(&self.tables.waits, q) != 0
             && add(cells, self.end, self.end, usize::from(self.tables.first[q]))
     }
 
