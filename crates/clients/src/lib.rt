@@ -23,7 +23,7 @@ use listing_theory::record::Record;
 use reading::reading::Reading;
 use scales::values::{Count, Price};
 
-// The answers of three looks: after no words, after NAME, and after "(" and NAME.
+// The answers of three looks, as `look` gives them: after no words, after NAME, and after "(" and NAME.
 #[derive(Clone, Copy)]
 pub struct Seen {
     pub empty: (bool, u32),

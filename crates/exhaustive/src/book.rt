@@ -32,7 +32,8 @@ fn productions_of(heap: Global, draft: &Draft, nonterminal: u8) -> Result<Vec<u8
         .collect(heap)
 }
 
-// The productions that may stand at a position of a parent with this right side.
+// The productions that may stand at a position of a parent with this right side. (The heap, the draft and the conflicts, here
+// and below: a struct of them would be there to make one map.)
 fn children_at(
     heap: Global,
     draft: &Draft,
@@ -56,6 +57,7 @@ fn children_below(
     right: &[u8],
 ) -> Result<Children, AllocError> {
     let mut children = HashMap::new(heap);
+    // (by index: `children_at` asks by position)
     for index in 0..right.len() {
         let at = Position { production, index };
         children.insert(at, children_at(heap, draft, conflicts, at, right)?)?;

@@ -2,7 +2,8 @@ use grammar::refusals::Refusal;
 use std::alloc::{AllocError, AllocFailed};
 use std::fmt;
 
-// A refusal of a line at a place in bytes, counted from 0.
+// A refusal of a line at a place in bytes, counted from 0. (It is 0 also where the refusal speaks of no place, and no option: that 0
+// is printed.)
 #[derive(Clone, Copy)]
 pub struct Fault {
     pub refusal: Refusal,

@@ -27,13 +27,17 @@ impl<'f, 'b> Trial<'f, 'b> {
         Ok(is_new && self.begins_from(Position::first(production), span, steps)?)
     }
 
-    // Whether the words of the span begin the words of a tree that may stand at the position. (a loop, as below: each
-    // step may lack memory)
+    // Whether the words of the span begin the words of a tree of one of the productions. (a loop, as below: each step may
+    // lack memory)
     #[cycle(prefixes)]
-    fn begins_at(&mut self, at: Position, span: Span, steps: u32) -> Result<bool, AllocError> {
-        let book = self.forest.book;
-        for child in book.children(at) {
-            if self.begins(*child, span, steps)? {
+    fn begins_any(
+        &mut self,
+        productions: &[u8],
+        span: Span,
+        steps: u32,
+    ) -> Result<bool, AllocError> {
+        for production in productions {
+            if self.begins(*production, span, steps)? {
                 return Ok(true);
             }
         }
@@ -59,17 +63,18 @@ impl<'f, 'b> Trial<'f, 'b> {
     // Whether the words of the span begin words that the symbols at the position and behind it may stand over.
     #[cycle(prefixes)]
     fn begins_from(&mut self, at: Position, span: Span, steps: u32) -> Result<bool, AllocError> {
+        let book = self.forest.book;
         if steps == 0 {
             return Ok(false);
         }
         if span.from >= span.to {
-            return Ok(self.forest.book.can_end(at));
+            return Ok(book.can_end(at));
         }
-        match self.forest.book.symbol(at) {
+        match book.symbol(at) {
             // the words end inside the nonterminal, or behind it
             Some(nonterminal) if nonterminal < 16 => {
                 Ok(
-                    self.forest.book.can_end(at.next()) && self.begins_at(at, span, steps - 1)?
+                    book.can_end(at.next()) && self.begins_any(book.children(at), span, steps - 1)?
                         || self.begins_behind(at, span, steps - 1)?,
                 )
             }
@@ -89,10 +94,5 @@ pub(crate) fn some_begins(heap: Global, forest: &mut Forest) -> Result<bool, All
         forest,
         tried: HashSet::new(heap),
     };
-    for root in book.roots() {
-        if trial.begins(*root, span, STEPS)? {
-            return Ok(true);
-        }
-    }
-    Ok(false)
+    trial.begins_any(book.roots(), span, STEPS)
 }

@@ -45,7 +45,7 @@ impl<'p, 'r> Source<'p, 'r> {
         }
     }
 
-    // The last place of the production p.
+    // The last place of the production p, or 0 where there is none: it is asked of each number of an array.
     fn last(&self, p: usize) -> u8
         ensures { p < length (productions_of self.now.productions.now) →
             result ≡ last_place (productions_of self.now.productions.now) p }

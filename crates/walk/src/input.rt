@@ -9,7 +9,8 @@ use reports::input::{print_book, reported};
 use std::io;
 use std::io::{Read, Write};
 
-// Reads the input part by part, and writes what each line is.
+// Reads the input part by part, and writes what each line is. (The runtime, the input and the output, here and below, are three things
+// that `main` lends.)
 fn read_lines<R: io::Read, W: io::Write>(
     rt: &HostRuntime,
     session: &mut Session,

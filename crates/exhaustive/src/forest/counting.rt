@@ -24,13 +24,17 @@ impl<'b> Forest<'b> {
         Ok(trees)
     }
 
-    // The trees over the span that may stand at the position. (a loop, as below: each step may lack memory)
+    // The trees of the productions over the span. (a loop, as below: each step may lack memory)
     #[cycle(trees)]
-    fn trees_at(&mut self, at: Position, span: Span, steps: u32) -> Result<Trees, AllocError> {
-        let book = self.book;
+    fn trees_of_each(
+        &mut self,
+        productions: &[u8],
+        span: Span,
+        steps: u32,
+    ) -> Result<Trees, AllocError> {
         let mut all = Trees::NONE;
-        for child in book.children(at) {
-            all = all.or(self.trees_of(*child, span, steps)?);
+        for production in productions {
+            all = all.or(self.trees_of(*production, span, steps)?);
         }
         Ok(all)
     }
@@ -41,14 +45,15 @@ impl<'b> Forest<'b> {
     fn trees_split(&mut self, at: Position, span: Span, steps: u32) -> Result<Trees, AllocError>
         requires { at.index < 6 }
     {
+        let book = self.book;
         let mut all = Trees::NONE;
-        let Some(fewest) = self.book.fewest_from(at.next()) else {
+        let Some(fewest) = book.fewest_from(at.next()) else {
             return Ok(all);
         };
         for middle in span.from..=span.to {
             // the symbols behind stand over no fewer words than that
             if fewest <= span.to - middle {
-                let first = self.trees_at(at, span.ending(middle), steps)?;
+                let first = self.trees_of_each(book.children(at), span.ending(middle), steps)?;
                 if !first.is_none() {
                     let rest = self.trees_from(at.next(), span.starting(middle), steps)?;
                     all = all.or(first.and(rest));
@@ -80,7 +85,8 @@ impl<'b> Forest<'b> {
 
     // Whether there is a tree over the span that may stand at the position.
     pub(crate) fn can_stand(&mut self, at: Position, span: Span) -> Result<bool, AllocError> {
-        let trees = self.trees_at(at, span, STEPS)?;
+        let book = self.book;
+        let trees = self.trees_of_each(book.children(at), span, STEPS)?;
         Ok(!trees.is_none())
     }
 
@@ -88,10 +94,6 @@ impl<'b> Forest<'b> {
     pub(crate) fn trees(&mut self) -> Result<Trees, AllocError> {
         let book = self.book;
         let span = self.span();
-        let mut all = Trees::NONE;
-        for root in book.roots() {
-            all = all.or(self.trees_of(*root, span, STEPS)?);
-        }
-        Ok(all)
+        self.trees_of_each(book.roots(), span, STEPS)
     }
 }

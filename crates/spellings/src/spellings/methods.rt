@@ -9,7 +9,7 @@ use grammar::refusals::FileRefusal;
 use syntax::spelling::{Spelling, Symbol};
 
 // The first index at which the spelling stands; none where it stands nowhere. (by `for` with an index: this project's form where kinds
-// are found)
+// are found; no one function with the search for a byte, since its clause speaks of what spellings stand for)
 fn first_index(words: &[Spelling], word: &Spelling) -> Option<usize>
     ensures { MatchOption result ((k : ℕ) (d : Spelling) → k < length words.now → ¬ (spelling (slice_index_or words.now k d) ≡ spelling word.now))
         (λ i. (i < length words.now) × ((d : Spelling) → spelling (slice_index_or words.now i d) ≡ spelling word.now)

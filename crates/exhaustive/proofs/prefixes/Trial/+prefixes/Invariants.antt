@@ -7,8 +7,8 @@ decreases-begins_from l = 4 * l.steps
 abbrev pub decreases-begins : goal.decreases-begins
 decreases-begins l = 4 * l.steps + 1
 
-abbrev pub decreases-begins_at : goal.decreases-begins_at
-decreases-begins_at l = 4 * l.steps + 2
+abbrev pub decreases-begins_any : goal.decreases-begins_any
+decreases-begins_any l = 4 * l.steps + 2
 
 abbrev pub decreases-begins_behind : goal.decreases-begins_behind
 decreases-begins_behind l = 4 * l.steps + 3
