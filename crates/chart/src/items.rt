@@ -47,7 +47,8 @@ fn join_places(cells: &mut Cells, x: usize, places: Places) -> bool
 }
 
 // Whether the item with origin i, end j and the place d is in the chart.
-pub fn has(cells: &Cells, i: usize, j: usize, d: usize) -> bool
+pub fn has(cells: &[u64], i: usize, j: usize, d: usize) -> bool
+    requires long { 4802 ≤ length cells.now }
     requires inside { (i ≤ 48) × ((j ≤ 48) × (d < 128)) }
     ensures yes { result ≡ true → Marked cells.now i j d }
     ensures no { result ≡ false → ¬ Marked cells.now i j d }

@@ -1,8 +1,9 @@
 //! The Earley chart of a grammar, as sets of bits in cells that the caller lends.
 //!
 //! The item with origin i, end j and the place d is bit d % 64 of the cell 2 * (49 * j + i) + d / 64, and the bit is 1
-//! exactly if the item is derivable from the words. Kinds are numbered from 0 here: the kind k is the
-//! symbol 16 + k.
+//! exactly if the item is derivable from the words. The first 4802 cells are the chart, and no other cell is written: the
+//! steps work on the array (`Cells`) that the public functions take out of the lent cells. Kinds are numbered from 0 here:
+//! the kind k is the symbol 16 + k.
 
 #![tactic(auto)]
 
@@ -12,7 +13,7 @@ ghost use Rattle.grammar.specs.Grammar.{Grammar};
 ghost use Rattle.tables.specs.declared.tables.Tables.{Tables};
 ghost use Rattle.tables.specs.Meaning.{Means, first_of};
 ghost use Rattle.theory.specs.Claims.{Awaited, Accepted};
-ghost use Rattle.chart.specs.Chart.{Marked, Charted, WhereCharted};
+ghost use Rattle.chart.specs.Chart.{Marked, Charted, WhereCharted, RestKept};
 ghost use Rattle.chart.specs.Columns.{Moves, Scanned, Ends};
 
 mod column;
@@ -39,9 +40,14 @@ fn add_start(t: &Tables, cells: &mut Cells, p: usize) -> bool
 }
 
 // Makes the cells the chart of no words.
-pub fn open_chart(t: &Tables, cells: &mut Cells)
-    ensures { (g : Grammar) → Means t.now g → Charted t.now g [] cells.new }
+pub fn open_chart(t: &Tables, cells: &mut [u64])
+    requires { 4802 ≤ length cells.old }
+    ensures charted { (g : Grammar) → Means t.now g → Charted t.now g [] cells.new }
+    ensures rest { RestKept cells.old cells.new }
 {
+    let Some(cells) = cells.first_chunk_mut::<CELL_COUNT>() else {
+        return;
+    };
     clear(cells, 0, CELL_COUNT);
     for p in 0..t.count {
         add_start(t, cells, p);
@@ -61,7 +67,8 @@ fn scan(t: &Tables, cells: &mut Cells, j: usize, kind: usize)
 }
 
 // Adds a word of the kind to the chart of n words, if an item waits for the kind. Else the cells stay as they are.
-pub fn put(t: &Tables, cells: &mut Cells, n: usize, kind: usize) -> bool
+pub fn put(t: &Tables, cells: &mut [u64], n: usize, kind: usize) -> bool
+    requires long { 4802 ≤ length cells.old }
     requires inside { (n < 48) × (kind < 32) }
     ensures taken { result ≡ true →
         WhereCharted t.now n cells.old
@@ -69,7 +76,11 @@ pub fn put(t: &Tables, cells: &mut Cells, n: usize, kind: usize) -> bool
     ensures refused { result ≡ false →
         (cells.new ≡ cells.old)
         × WhereCharted t.now n cells.old (λ g ws. ¬ Awaited g ws (16 + kind)) }
+    ensures rest { RestKept cells.old cells.new }
 {
+    let Some(cells) = cells.first_chunk_mut::<CELL_COUNT>() else {
+        return false;
+    };
     if gather(cells, n) & places_of(&t.before, kind) == 0 {
         return false;
     }
@@ -79,14 +90,19 @@ pub fn put(t: &Tables, cells: &mut Cells, n: usize, kind: usize) -> bool
 }
 
 // Takes the last of n words out of the chart: empties column n, which is 98 cells.
-pub fn take_back(cells: &mut Cells, n: usize)
-    requires { n ≤ 48 }
-    ensures { (t : Tables) (g : Grammar) (ws : List ℕ) (a : ℕ) →
+pub fn take_back(cells: &mut [u64], n: usize)
+    requires long { 4802 ≤ length cells.old }
+    requires inside { n ≤ 48 }
+    ensures charted { (t : Tables) (g : Grammar) (ws : List ℕ) (a : ℕ) →
         Means t g →
         length ws + 1 ≡ n →
         Charted t g (ws ++ a ∷ []) cells.old →
         Charted t g ws cells.new }
+    ensures rest { RestKept cells.old cells.new }
 {
+    let Some(cells) = cells.first_chunk_mut::<CELL_COUNT>() else {
+        return;
+    };
     clear(cells, 98 * n, 98 * (n + 1));
 }
 
@@ -99,8 +115,8 @@ fn spans(t: &Tables, cells: &Cells, n: usize, q: usize) -> bool
     contains(t.starts, q) && has(cells, 0, n, usize::from(t.last[q]))
 }
 
-// Whether the n words of the chart are a sentence.
-pub fn accepts(t: &Tables, cells: &Cells, n: usize) -> bool
+// Whether the n words of the chart are a sentence, on the chart's array.
+fn is_accepted(t: &Tables, cells: &Cells, n: usize) -> bool
     requires inside { n ≤ 48 }
     ensures yes { result ≡ true → WhereCharted t.now n cells.now Accepted }
     ensures no { result ≡ false → WhereCharted t.now n cells.now (λ g ws. ¬ Accepted g ws) }
@@ -108,12 +124,38 @@ pub fn accepts(t: &Tables, cells: &Cells, n: usize) -> bool
     (0..t.count).any(|q| spans(t, cells, n, q))
 }
 
-// The set of the kinds that an item behind the n words of the chart waits for.
-pub fn expected_kinds(t: &Tables, cells: &Cells, n: usize) -> u32
+// Whether the n words of the chart are a sentence.
+pub fn accepts(t: &Tables, cells: &[u64], n: usize) -> bool
+    requires long { 4802 ≤ length cells.now }
+    requires inside { n ≤ 48 }
+    ensures yes { result ≡ true → WhereCharted t.now n cells.now Accepted }
+    ensures no { result ≡ false → WhereCharted t.now n cells.now (λ g ws. ¬ Accepted g ws) }
+{
+    let Some(cells) = cells.first_chunk::<CELL_COUNT>() else {
+        return false;
+    };
+    is_accepted(t, cells, n)
+}
+
+// The set of the kinds that an item behind the n words of the chart waits for, on the chart's array.
+fn kinds_behind(t: &Tables, cells: &Cells, n: usize) -> u32
     requires inside { n ≤ 48 }
     ensures { WhereCharted t.now n cells.now
         (λ g ws. (b : ℕ) → b < 32 → Has result b ↔ Awaited g ws (16 + b)) }
 {
     let places = gather(cells, n);
     chosen(0..32, |kind| places & places_of(&t.before, kind) != 0)
+}
+
+// The set of the kinds that an item behind the n words of the chart waits for.
+pub fn expected_kinds(t: &Tables, cells: &[u64], n: usize) -> u32
+    requires long { 4802 ≤ length cells.now }
+    requires inside { n ≤ 48 }
+    ensures { WhereCharted t.now n cells.now
+        (λ g ws. (b : ℕ) → b < 32 → Has result b ↔ Awaited g ws (16 + b)) }
+{
+    let Some(cells) = cells.first_chunk::<CELL_COUNT>() else {
+        return 0;
+    };
+    kinds_behind(t, cells, n)
 }

@@ -14,7 +14,7 @@ mod node;
 mod slot;
 mod sources;
 
-use chart::Cells;
+use chart::CELL_COUNT;
 use grammar::production::Production;
 use grammar::refusals::ReadingRefusal;
 use listing_theory::record::Record;
@@ -27,9 +27,10 @@ pub fn list(
     tables: &Tables,
     productions: &[Production],
     words: &[u8],
-    cells: &Cells,
+    cells: &[u64],
     records: &mut [Record],
 ) -> Result<usize, ReadingRefusal>
+    requires long { 4802 ≤ length cells.now }
     requires few { length words.now ≤ 48 }
     requires counted { tables.now.count ≡ length productions.now }
     ensures size { length records.new ≡ length records.old }
@@ -40,6 +41,9 @@ pub fn list(
         Charted tables.now g words.now cells.now →
         Listed g words.now records.old result records.new }
 {
+    let Some(cells) = cells.first_chunk::<CELL_COUNT>() else {
+        return Err(ReadingRefusal::NoSentence);
+    };
     let sources = Sources {
         tables,
         productions,

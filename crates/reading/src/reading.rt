@@ -1,7 +1,6 @@
 use draft::sealed::Grammar;
 use grammar::bytes::Bytes;
 
-mod changing;
 mod methods;
 
 // How many words stand at most.

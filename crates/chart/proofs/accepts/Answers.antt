@@ -1,15 +1,14 @@
-use Rattle.std.proofs.Common.{ℕ, ◌<◌, arith, rules}
-use Rattle.std.proofs.iter.runs.Sources.{ranges}
-use Rattle.chart.specs.Columns.{Ends}
-use Rattle.chart.proofs.Words.{accepted, not_accepted}
+use Rattle.std.proofs.Common.{arith}
+use Rattle.theory.specs.Claims.{Accepted}
+use Rattle.chart.proofs.Fronts.{where_front}
 use Rattle.chart.proofs.accepts.Goals as goal
 
 pub returns-clause-yes : goal.returns-clause-yes
 returns-clause-yes c t =
-    let found : (q : ℕ) × (q < c.args.t.now.count) × Ends c.args.t.now c.args.n c.args.cells.now q = search (rules, ranges) in
-    accepted c.args.t.now c.args.n c.args.cells.now found.0 (omega arith) found.1 found.2
+    let lent = c.in-Some.ensures.cases in
+    where_front c.args.cells.now c.in-Some.cells.now lent.enough lent.same c.args.t.now c.args.n (omega arith) Accepted (c.is_accepted.ensures.yes t)
 
 pub returns-clause-no : goal.returns-clause-no
 returns-clause-no c f =
-    let none : (q : ℕ) → q < c.args.t.now.count → ¬ Ends c.args.t.now c.args.n c.args.cells.now q = search (rules, ranges) in
-    not_accepted c.args.t.now c.args.n c.args.cells.now none
+    let lent = c.in-Some.ensures.cases in
+    where_front c.args.cells.now c.in-Some.cells.now lent.enough lent.same c.args.t.now c.args.n (omega arith) (λ g ws. ¬ Accepted g ws) (c.is_accepted.ensures.no f)

@@ -21,7 +21,8 @@ impl<'a> Node<'a> {
         ensures no { result ≡ false → ¬ Whole self.now.sources self.now.production self.now.start self.now.end }
     {
         let last = self.sources.tables.last[self.production] as usize;
-        has(self.sources.cells, self.start, self.end, last)
+        let cells = self.sources.cells;
+        has(cells, self.start, self.end, last)
     }
 
     // The rank of the left side of its production, at most 16. (`list` asks nothing of left sides and ranks: a left side that is out

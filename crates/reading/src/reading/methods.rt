@@ -1,15 +1,26 @@
-ghost use Rattle.std.specs.Prelude.{◌≡◌, length, take, MatchResult};
+ghost use Rattle.std.specs.Prelude.{◌≡◌, ◌+◌, ◌<◌, length, MatchOption, MatchResult};
+ghost use Rattle.grammar.specs.Grammar.{Kind};
 ghost use Rattle.grammar.specs.declared.refusals.ReadingRefusal.TheVariants.{ShortChart};
 ghost use Rattle.reading.specs.Readings.{Put, TakenFromEnd, Looked, Opened, Listed, Scored, ScoreRefused, Long, without_value, words, cells};
 
 use super::Reading;
-use super::changing::{put_word, take_word};
-use chart::{CELL_COUNT, Cells, accepts, expected_kinds, open_chart};
+use crate::chart_fits;
+use chart::{accepts, expected_kinds, open_chart};
 use draft::sealed::Grammar;
 use grammar::bytes::Bytes;
 use grammar::refusals::ReadingRefusal;
 use listing_theory::record::Record;
 use scales::Semiring;
+
+// The number of the kind as the chart counts kinds, from 0; none where the symbol is no kind.
+fn index_of(kind: u8) -> Option<usize>
+    ensures { MatchOption result (¬ Kind kind) (λ index. (index < 32) × (16 + index ≡ kind)) }
+{
+    match kind {
+        16..=47 => Some(usize::from(kind - 16)),
+        _ => None,
+    }
+}
 
 impl<'b, 'c> Reading<'b, 'c> {
     // A reading of the grammar with no words, on the lent chart. A chart that is too short stays as it is.
@@ -18,8 +29,8 @@ impl<'b, 'c> Reading<'b, 'c> {
         ensures grammar { result.grammar.now ≡ grammar.now }
         ensures lent { result.chart.ghost_name ≡ chart.entry.ghost_name }
     {
-        if let Some(cells) = chart.first_chunk_mut::<CELL_COUNT>() {
-            open_chart(grammar.tables(), cells);
+        if chart_fits(chart) {
+            open_chart(grammar.tables(), chart);
         }
         let line = Bytes::empty();
         Reading {
@@ -33,21 +44,39 @@ impl<'b, 'c> Reading<'b, 'c> {
     pub fn put(&mut self, kind: u8) -> Result<u8, ReadingRefusal>
         ensures { Put self.old kind result self.new }
     {
-        put_word(self.grammar.tables(), self.chart, &mut self.line, kind)
+        self.cells()?;
+        if self.line.is_full() {
+            return Err(ReadingRefusal::LineFull);
+        }
+        let count = self.line.len();
+        let index = index_of(kind).ok_or(ReadingRefusal::NoKind)?;
+        if !chart::put(self.grammar.tables(), self.chart, count, index) {
+            return Err(ReadingRefusal::NothingBegins);
+        }
+        self.line.push(kind);
+        Ok((count + 1) as u8)
     }
 
     // Takes the last word back, and answers how many then stand.
     pub fn take_back(&mut self) -> Result<u8, ReadingRefusal>
         ensures { TakenFromEnd self.old result self.new }
     {
-        take_word(self.chart, &mut self.line)
+        self.cells()?;
+        let count = self.line.len();
+        self.line.pop().ok_or(ReadingRefusal::NoWord)?;
+        chart::take_back(self.chart, count);
+        Ok((count - 1) as u8)
     }
 
-    // The cells that hold the chart, if there are as many.
-    fn cells(&self) -> Result<&Cells, ReadingRefusal>
-        ensures { MatchResult result (λ chart. Long (cells self.now) × (chart.now ≡ take 4802 (cells self.now))) (λ e. (e ≡ ShortChart) × ¬ Long (cells self.now)) }
+    // The cells of the chart, if there are enough.
+    fn cells(&self) -> Result<&[u64], ReadingRefusal>
+        ensures { MatchResult result (λ chart. Long (cells self.now) × (chart.now ≡ cells self.now)) (λ e. (e ≡ ShortChart) × ¬ Long (cells self.now)) }
     {
-        self.chart.first_chunk().ok_or(ReadingRefusal::ShortChart)
+        if chart_fits(self.chart) {
+            Ok(self.chart)
+        } else {
+            Err(ReadingRefusal::ShortChart)
+        }
     }
 
     // Whether the words that stand are a sentence, and the kinds that may come next: bit b for the kind 16 + b, none where 48 words

@@ -4,7 +4,7 @@ use Rattle.chart.specs.Chart.{Charted}
 use Rattle.reading.specs.Readings.{grammar_of}
 use Rattle.reading.proofs.Sealed.{means_at}
 use Rattle.reading.proofs.Handed.{formed, productions_at, counted}
-use Rattle.reading.proofs.Stepping.{front_charted}
+use Rattle.reading.proofs.Stepping.{handed_chart}
 use Rattle.reading.proofs.reading.Reading.list.Goals as goal
 
 pub list-requires-clause-counted : goal.list-requires-clause-counted
@@ -22,5 +22,5 @@ returns c =
           (λ charted.
           c.list.ensures.listed (grammar_of r) (means_at r.grammar.now _ c.tables-tables.ensures)
           (productions_at r.grammar.now _ c.draft.ensures _ c.productions-productions.ensures) (formed r.grammar.now) charted)
-          (front_charted r _ c.tables-tables.ensures _ e.1 marks);
+          (handed_chart r _ c.tables-tables.ensures _ e.1 marks);
     }

@@ -4,7 +4,7 @@ use Rattle.theory.proofs.Exact.{viable_kinds}
 use Rattle.bitset.proofs.Digits.{none_of_zero}
 use Rattle.reading.specs.Readings.{words, grammar_of}
 use Rattle.reading.proofs.Sealed.{means_at}
-use Rattle.reading.proofs.Stepping.{few_words, front_charted}
+use Rattle.reading.proofs.Stepping.{few_words, handed_chart}
 use Rattle.reading.proofs.Words.{whole}
 use Rattle.reading.proofs.reading.Reading.look.Goals as goal
 
@@ -17,7 +17,7 @@ returns-then-is_full c =
       e.0,
       λ m.
           let means = means_at r.grammar.now _ c.tables-tables.ensures in
-          let chart = front_charted r _ c.tables-tables.ensures _ e.1 m in
+          let chart = handed_chart r _ c.tables-tables.ensures _ e.1 m in
           record {
             whole =
                 whole c.accepts-sentence.result (grammar_of r) (words r) (λ t. c.accepts-sentence.ensures.yes t (grammar_of r) (words r) means (sym n) chart)
@@ -35,7 +35,7 @@ returns c =
       e.0,
       λ m.
           let means = means_at r.grammar.now _ c.tables-tables.ensures in
-          let chart = front_charted r _ c.tables-tables.ensures _ e.1 m in
+          let chart = handed_chart r _ c.tables-tables.ensures _ e.1 m in
           record {
             whole =
                 whole c.accepts-sentence.result (grammar_of r) (words r) (λ t. c.accepts-sentence.ensures.yes t (grammar_of r) (words r) means (sym n) chart)
