@@ -4,6 +4,9 @@
 //! exactly if the item is derivable from the words. The first 4802 cells are the chart, and no other cell is written: the
 //! steps work on the array (`Cells`) that the public functions take out of the lent cells. Kinds are numbered from 0 here:
 //! the kind k is the symbol 16 + k.
+//!
+//! The public functions take a lent slice, whose front is the chart's array: that it is long enough is asked of the caller, so
+//! `first_chunk` is never none. What lies behind stays as it is.
 
 #![tactic(auto)]
 
@@ -55,7 +58,8 @@ pub fn open_chart(t: &Tables, cells: &mut [u64])
     close_column(t, cells, 0);
 }
 
-// Moves the items of column j that wait for the kind into column j + 1.
+// Moves the items of column j that wait for the kind into column j + 1. (A loop of its own, as in `open_chart`: whether a step changed
+// the cells is not asked, as it is in a column's `pass`.)
 fn scan(t: &Tables, cells: &mut Cells, j: usize, kind: usize)
     requires inside { (j < 48) × (kind < 32) }
     ensures { Scanned t.now j kind (j + 1) cells.old cells.new }
