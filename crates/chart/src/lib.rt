@@ -3,10 +3,7 @@
 //! The item with origin i, end j and the place d is bit d % 64 of the cell 2 * (49 * j + i) + d / 64, and the bit is 1
 //! exactly if the item is derivable from the words. The first 4802 cells are the chart, and no other cell is written: the
 //! steps work on the array (`Cells`) that the public functions take out of the lent cells. Kinds are numbered from 0 here:
-//! the kind k is the symbol 16 + k.
-//!
-//! The public functions take a lent slice, whose front is the chart's array: that it is long enough is asked of the caller, so
-//! `first_chunk` is never none. What lies behind stays as it is.
+//! the kind k is the symbol 16 + k. (That there are so many is asked of the caller, so that there always is an array to take.)
 
 #![tactic(auto)]
 
