@@ -127,7 +127,9 @@ static void damage_lines(struct random *random, struct text *book, uint32_t sort
 
 /* Digits in the place of some number. */
 static void damage_number(struct random *random, struct text *book) {
-    static const char *const NUMBERS[] = {"0", "00", "01", "1", "5", "65535", "65536", "65537", "99999", "100000", "4294967297", "18446744073709551617", "-1", "+1", ""};
+    static const char *const NUMBERS[] = {
+        "0", "00", "01", "1", "5", "65535", "65536", "65537", "99999", "100000", "4294967297", "18446744073709551617", "-1", "+1", "",
+    };
     size_t at = some_place(random, book), end;
     while (at > 0 && (at == book->len || book->bytes[at] < '0' || book->bytes[at] > '9')) {
         at--;
@@ -142,7 +144,7 @@ static void damage_number(struct random *random, struct text *book) {
 /* Fills the book up to the limit of its bytes, or past it, with bytes of one sort, or cuts it there. */
 static void damage_length(struct random *random, struct text *book) {
     static const char FILLERS[] = "\n x0\"A\377";
-    static const uint16_t LENGTHS[] = {BOOK_BYTES, BOOK_BYTES + 1, BOOK_BYTES - 1, BOOK_BYTES, BOOK_BYTES + 1, 20000, 40000};
+    static const uint32_t LENGTHS[] = {BOOK_BYTES, BOOK_BYTES + 1, BOOK_BYTES - 1, BOOK_BYTES, BOOK_BYTES + 1, 20000, 65536, 65600};
     size_t len = LENGTHS[below(random, sizeof LENGTHS / sizeof *LENGTHS)];
     uint8_t filler = (uint8_t)FILLERS[below(random, sizeof FILLERS - 1)];
     bool is_ended = chance(random, 70);
@@ -163,7 +165,10 @@ static void damage_length(struct random *random, struct text *book) {
 
 /* Parts of lines in any order. */
 static void put_parts(struct random *random, struct text *book) {
-    static const char *const PARTS[] = {"RBK", "1", "start", "A", "B", "P", "Q", "word", "NAME", "NUM", "\"a\"", "\"or\"", "\"\"", "\"", "\"abcdefghi\"", "=", ";", ">", "L", "R", "N", "0", "2", "65535", "65536", ""};
+    static const char *const PARTS[] = {
+        "RBK", "1", "start", "A", "B", "P", "Q", "word", "NAME", "NUM", "\"a\"", "\"or\"", "\"\"", "\"", "\"abcdefghi\"",
+        "=", ";", ">", "L", "R", "N", "0", "2", "65535", "65536", "",
+    };
     uint32_t count = between(random, 0, 60);
     text_string(book, chance(random, 70) ? "RBK 1\nstart A\n" : "");
     for (uint32_t i = 0; i < count; i++) {

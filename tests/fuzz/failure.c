@@ -1,6 +1,7 @@
 #include "failure.h"
 
 #include <fcntl.h>
+#include <inttypes.h>
 #include <signal.h>
 #include <stdarg.h>
 #include <stdio.h>
@@ -18,7 +19,7 @@ void trying(uint64_t seed, uint64_t number) {
     tried_seed = seed;
     tried_number = number;
     alarm(CASE_SECONDS);
-    int len = snprintf(text, sizeof text, "%-20llu %-20llu\n", (unsigned long long)seed, (unsigned long long)number);
+    int len = snprintf(text, sizeof text, "%-20" PRIu64 " %-20" PRIu64 "\n", seed, number);
     if (file < 0) {
         file = open("case", O_WRONLY | O_CREAT | O_TRUNC | O_CLOEXEC, 0666);
     }
@@ -29,7 +30,7 @@ void trying(uint64_t seed, uint64_t number) {
 
 _Noreturn void fail(const char *format, ...) {
     va_list arguments;
-    printf("seed %llu, case %llu: ", (unsigned long long)tried_seed, (unsigned long long)tried_number);
+    printf("seed %" PRIu64 ", case %" PRIu64 ": ", tried_seed, tried_number);
     va_start(arguments, format);
     vprintf(format, arguments);
     va_end(arguments);

@@ -133,14 +133,18 @@ static void make_operators(struct random *random, struct grammar *grammar) {
     }
 }
 
-/* Letters that each stand for several of the next one, the last of them for nothing: trees with very many nodes. */
+/* Letters that each stand for several of the next one, the last of them for nothing: trees with very many nodes. With all
+   letters, each for two of the next, there are 65,535, and with some of the last behind the first two, so many more. */
 static void make_empties(struct random *random, struct grammar *grammar) {
-    uint32_t letters = between(random, 2, 12), width = between(random, 1, 6);
+    bool is_full = chance(random, 30);
+    uint32_t letters = is_full ? LETTERS : between(random, 2, 12), width = is_full ? 2 : between(random, 1, 6);
+    uint32_t more = is_full ? below(random, 3) : 0;
     uint8_t right[RIGHT_MAX];
     add_spelling(random, grammar);
     for (uint32_t left = 0; left + 1 < letters; left++) {
-        memset(right, (int)left + 1, sizeof right);
-        add(random, grammar, (uint8_t)left, right, width);
+        memset(right, (int)letters - 1, sizeof right);
+        memset(right, (int)left + 1, width);
+        add(random, grammar, (uint8_t)left, right, width + (left == 0 ? more : 0));
     }
     add(random, grammar, (uint8_t)(letters - 1), right, 0);
     if (chance(random, 60)) {

@@ -160,7 +160,7 @@ static void put_kinds(const struct derivation *derivation, struct text *line) {
 
 /* Blanks, or other bytes, up to the limit of a line's bytes or past it. */
 static void stretch(struct random *random, struct text *line) {
-    static const uint16_t LENGTHS[] = {LINE_BYTES, LINE_BYTES + 1, LINE_BYTES - 1, 20000, 40000};
+    static const uint32_t LENGTHS[] = {LINE_BYTES, LINE_BYTES + 1, LINE_BYTES - 1, LINE_BYTES, LINE_BYTES + 1, 20000, 65536, 65600};
     size_t len = LENGTHS[below(random, sizeof LENGTHS / sizeof *LENGTHS)];
     struct text filler = {0};
     text_repeat(&filler, chance(random, 70) ? ' ' : (uint8_t)between(random, 33, 255), len);

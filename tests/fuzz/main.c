@@ -3,6 +3,7 @@
 #include "failure.h"
 #include "programs.h"
 
+#include <inttypes.h>
 #include <stdio.h>
 #include <stdlib.h>
 #include <string.h>
@@ -39,9 +40,9 @@ static int calls(uint64_t seed, uint64_t first, uint64_t count) {
         try_calls(&made, &random, &counts);
         free_case(&made);
     }
-    printf("calls: %llu cases, 3 x %llu calls, at most %llu records; answers", (unsigned long long)count, (unsigned long long)counts.calls, (unsigned long long)counts.most_records);
+    printf("calls: %" PRIu64 " cases, 3 x %" PRIu64 " calls, at most %" PRIu64 " records; answers", count, counts.calls, counts.most_records);
     for (size_t i = 0; i < sizeof ANSWERS; i++) {
-        printf(" %u:%llu", ANSWERS[i], (unsigned long long)counts.answers[ANSWERS[i]]);
+        printf(" %u:%" PRIu64, ANSWERS[i], counts.answers[ANSWERS[i]]);
     }
     printf("\n");
     for (size_t i = 0; count >= MANY && i < sizeof ANSWERS; i++) {
@@ -63,9 +64,9 @@ static int programs(uint64_t seed, uint64_t first, uint64_t count, const char *w
         try_programs(&made, &random, &run);
         free_case(&made);
     }
-    printf("programs: %llu cases, %llu lines with trees, %llu with 16", (unsigned long long)count, (unsigned long long)run.trees, (unsigned long long)run.short_tables);
+    printf("programs: %" PRIu64 " cases, %" PRIu64 " lines with trees, %" PRIu64 " with 16", count, run.trees, run.short_tables);
     if (exhaustive != NULL) {
-        printf("; exhaustive said the same of %llu, and had too little time for %llu", (unsigned long long)run.compared, (unsigned long long)run.unended);
+        printf("; exhaustive said the same of %" PRIu64 ", and had too little time for %" PRIu64, run.compared, run.unended);
     }
     printf("\n");
     return 0;

@@ -4,6 +4,7 @@
 
 #include <errno.h>
 #include <fcntl.h>
+#include <inttypes.h>
 #include <stdio.h>
 #include <stdlib.h>
 #include <string.h>
@@ -119,7 +120,7 @@ static uint64_t take_number(struct rest *rest) {
     for (const char *byte = rest->bytes; *byte >= '0' && *byte <= '9' && number < 1ull << 40; byte++) {
         number = 10 * number + (uint64_t)(*byte - '0');
     }
-    snprintf(digits, sizeof digits, "%llu", (unsigned long long)number);
+    snprintf(digits, sizeof digits, "%" PRIu64, number);
     take(rest, digits);
     return number;
 }
@@ -134,7 +135,7 @@ static void take_trees(struct rest *rest, const struct reading *reading) {
     uint64_t listed = reading->price < UINT32_MAX ? reading->price : UINT32_MAX;
     bool is_whole = reading->record_count < REFERENCE_RECORDS;
     if (trees == 0 || trees > UINT32_MAX || price > UINT32_MAX || (is_whole && (price > listed || (trees == 1 && price != listed)))) {
-        fail("%llu trees of price %llu, and one of price %llu", (unsigned long long)trees, (unsigned long long)price, (unsigned long long)listed);
+        fail("%" PRIu64 " trees of price %" PRIu64 ", and one of price %" PRIu64, trees, price, listed);
     }
 }
 

@@ -186,7 +186,10 @@ static uint32_t add_production(struct grammar *grammar, struct production added,
 static uint32_t read_production(struct grammar *grammar, const struct field *fields, size_t count) {
     struct production added = {0};
     uint64_t price;
-    if (count < 4 || !letter_of(fields[0], &added.left) || !is(fields[1], "=") || !is(fields[count - 2], ";") || !number_of(fields[count - 1], &price)) {
+    if (count < 4 || !letter_of(fields[0], &added.left) || !is(fields[1], "=")) {
+        return FORM;
+    }
+    if (!is(fields[count - 2], ";") || !number_of(fields[count - 1], &price)) {
         return FORM;
     }
     uint32_t refusal = 0;

@@ -1,5 +1,6 @@
 #include "text.h"
 
+#include <inttypes.h>
 #include <stdio.h>
 #include <stdlib.h>
 #include <string.h>
@@ -39,7 +40,7 @@ void text_string(struct text *text, const char *string) {
 
 void text_number(struct text *text, uint64_t number) {
     char digits[24];
-    snprintf(digits, sizeof digits, "%llu", (unsigned long long)number);
+    snprintf(digits, sizeof digits, "%" PRIu64, number);
     text_string(text, digits);
 }
 
