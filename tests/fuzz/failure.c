@@ -7,9 +7,11 @@
 #include <stdio.h>
 #include <stdlib.h>
 #include <string.h>
+#include <sys/time.h>
 #include <unistd.h>
 
-#define CASE_SECONDS 300
+/* Of processor time, so that a machine that is busy or halted makes no difference. */
+#define CASE_SECONDS 60
 
 static uint64_t tried_seed, tried_number;
 
@@ -18,7 +20,7 @@ void trying(uint64_t seed, uint64_t number) {
     char text[48];
     tried_seed = seed;
     tried_number = number;
-    alarm(CASE_SECONDS);
+    setitimer(ITIMER_PROF, &(struct itimerval){.it_value = {.tv_sec = CASE_SECONDS}}, NULL);
     int len = snprintf(text, sizeof text, "%-20" PRIu64 " %-20" PRIu64 "\n", seed, number);
     if (file < 0) {
         file = open("case", O_WRONLY | O_CREAT | O_TRUNC | O_CLOEXEC, 0666);
@@ -44,7 +46,7 @@ static void on_signal(int number) {
 }
 
 void catch_faults(void) {
-    static const int SIGNALS[] = {SIGSEGV, SIGBUS, SIGILL, SIGFPE, SIGABRT, SIGALRM};
+    static const int SIGNALS[] = {SIGSEGV, SIGBUS, SIGILL, SIGFPE, SIGABRT, SIGPROF};
     static char stack[1 << 16];
     sigaltstack(&(stack_t){.ss_sp = stack, .ss_size = sizeof stack}, NULL);
     struct sigaction action = {.sa_handler = on_signal, .sa_flags = SA_ONSTACK};

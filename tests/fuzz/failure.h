@@ -4,7 +4,7 @@
 
 #include <stdint.h>
 
-/* Tells which case is tried, notes it in the file `case`, and gives it a time. */
+/* Tells which case is tried, notes it in the file `case`, and gives it a time to end in. */
 void trying(uint64_t seed, uint64_t number);
 
 /* Says what is wrong with the case that is tried, and ends the program. */

@@ -12,7 +12,10 @@
 #include <sys/wait.h>
 #include <unistd.h>
 
+/* Of processor time. */
+#define WALK_SECONDS 60
 #define EXHAUSTIVE_SECONDS 1
+
 #define TABLE_ENTRIES 8000
 
 static void write_file(const char *name, const struct text *text) {
@@ -47,10 +50,10 @@ static void read_file(const char *name, struct text *text) {
 static _Noreturn void become(const char *program, int input, rlim_t seconds) {
     int output = open("said", O_WRONLY | O_CREAT | O_TRUNC, 0666);
     struct rlimit time = {seconds, seconds + 1}, none = {0, 0};
-    if (output < 0 || dup2(input, 0) < 0 || dup2(output, 1) < 0 || setrlimit(RLIMIT_CORE, &none) != 0) {
+    if (output < 0 || dup2(input, 0) < 0 || dup2(output, 1) < 0) {
         _exit(126);
     }
-    if (seconds > 0 && setrlimit(RLIMIT_CPU, &time) != 0) {
+    if (setrlimit(RLIMIT_CORE, &none) != 0 || setrlimit(RLIMIT_CPU, &time) != 0) {
         _exit(126);
     }
     signal(SIGPIPE, SIG_DFL);
@@ -212,7 +215,7 @@ void try_programs(const struct fuzz_case *made, struct random *random, struct pr
     struct text lines = {0}, said = {0};
     write_case(made);
     put_lines(made, &lines);
-    int status = run(programs->walk, &lines, chance(random, 50) ? random : NULL, 0, &said);
+    int status = run(programs->walk, &lines, chance(random, 50) ? random : NULL, WALK_SECONDS, &said);
     if (status != 0) {
         fail("walk ends with status %d", status);
     }
