@@ -74,12 +74,13 @@ pub(crate) fn advance(cells: &mut Cells, i: usize, s: usize, j: usize, mask: Pla
     moved != 0 && join_places(cells, set_of(i, j), moved << 1)
 }
 
-// The places of the items of column j, of any origin.
+// The places of the items of column j, of any origin. (Not `..=`: each step over a closed range tests besides whether it is used up, and
+// this loop is most of what a refused word costs.)
 pub(crate) fn gather(cells: &Cells, j: usize) -> Places
     requires inside { j ≤ 48 }
     ensures { Gathered cells.now j (j + 1) result }
 {
-    (0..=j).fold(0, |all, i| all | places_at(cells, i, j))
+    (0..j + 1).fold(0, |all, i| all | places_at(cells, i, j))
 }
 
 // Empties the cells from `start` to `end`.

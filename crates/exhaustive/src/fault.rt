@@ -1,6 +1,27 @@
-use grammar::refusals::Refusal;
+ghost use Rattle.std.specs.Prelude.{◌≡◌};
+ghost use Rattle.exhaustive.specs.Numbers.{number};
+
 use std::alloc::{AllocError, AllocFailed};
 use std::fmt;
+
+// Why a line is refused. (With numbers of its own: what the reader says is compared with them.)
+#[derive(Clone, Copy)]
+pub enum Refusal {
+    LineFull = 9,
+    NothingBegins = 11,
+    NoSentence = 13,
+    ShortTable = 16,
+    UnknownWord = 21,
+}
+
+impl Refusal {
+    // The number that is printed of it.
+    fn number(self) -> u8
+        ensures { result ≡ number self }
+    {
+        self as u8
+    }
+}
 
 // A refusal of a line at a place in bytes, counted from 0. (It is 0 also where the refusal speaks of no place, and no option: that 0
 // is printed.)
@@ -27,8 +48,7 @@ pub enum LineError {
 
 impl LineError {
     // The line is refused at the place.
-    pub(crate) fn refused<R: Into<Refusal>>(refusal: R, place: usize) -> LineError {
-        let refusal = refusal.into();
+    pub(crate) fn refused(refusal: Refusal, place: usize) -> LineError {
         LineError::Refused(Fault { refusal, place })
     }
 }

@@ -6,13 +6,16 @@ use std::collections::HashMap;
 
 mod counting;
 
-// The words of a line, by their kinds, and what is known already of the trees of each production over each span of
-// them, by the book that says what they mean.
+// What is known already of the trees of each production over one span. Productions go by their numbers, from 1 to 32.
+type Known = [Option<Trees>; 33];
+
+// The words of a line, by their kinds, and what is known already over each span of them, by the book that says what they
+// mean.
 #[derive(Drop)]
 pub struct Forest<'b> {
     pub book: &'b Book,
     words: Vec<u8>,
-    known: HashMap<(u8, Span), Trees>,
+    known: HashMap<Span, Known>,
 }
 
 impl<'b> Forest<'b> {

@@ -1,7 +1,7 @@
 -- The whole input, taken part by part. Assumes nothing.
-use Rattle.std.proofs.Common.{◌≡◌, ℕ, ◌<◌, min, List, ◌∷◌, [], ◌++◌, length, take, Ok, Result, None, Some, Option, append_assoc, sym, refl, subst, arith}
+use Rattle.std.proofs.Common.{◌≡◌, ℕ, ◌<◌, min, List, ◌∷◌, [], ◌++◌, length, take, Ok, Result, None, Some, Option, append_assoc, sym, refl, ◌∙◌, subst, arith}
 use Rattle.std.specs.Prelude.{codes, decimal, IfSome}
-use Rattle.std.specs.Io.KnownBytes.{Appends, Consumes, ReadConsumes, IsAtEnd}
+use Rattle.std.specs.Io.KnownBytes.{Appends, Consumes, Keeps, ReadConsumes, IsAtEnd}
 use Rattle.file_model.specs.Spelled.{Spelled}
 use Rattle.files.specs.declared.spelled.SpelledDraft.{SpelledDraft}
 use Rattle.files.specs.Model.{model}
@@ -48,6 +48,21 @@ judged book s t (Some text) n a b c start (rs, h, out) e more =
       record { first = s; last = t; reports = rs; lines = k.0; starts = start; takes = h; counts = k.1; is = refl },
       both_appended a b c (written rs) (count_report k.0) out last,
     )
+
+-- what is appended stays so where the bytes are kept
+kept_appended : (a b c : Option (List ℕ)) (bytes : List ℕ) → Appends a b bytes → Keeps b c → Appends a c bytes
+kept_appended None b c bytes x y = tt
+kept_appended (Some xs) None c bytes x y = absurd x
+kept_appended (Some xs) (Some ys) None bytes x y = absurd y
+kept_appended (Some xs) (Some ys) (Some zs) bytes x y = y ∙ x
+
+-- what is printed of a book that is read stays so
+pub kept_printed :
+    (text : List ℕ) (book : SpelledDraft) (a b c : Option (List ℕ)) →
+    Printed text (Some book) a b →
+    Keeps b c →
+    Printed text (Some book) a c
+kept_printed text book a b c (x, reads, out) kept = (x, reads, kept_appended a b c (report x ++ 10 ∷ []) out kept)
 
 -- a book that is read, and then the input
 pub walked :

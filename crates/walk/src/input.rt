@@ -48,7 +48,8 @@ fn judge_lines<R: io::Read, W: io::Write>(
     writeln!(out, "lines {count}")
 }
 
-// Writes what the text is as a grammar file and, where it is one, what each line of the input is by it.
+// Writes what the text is as a grammar file and, where it is one, what each line of the input is by it. What the text is is out before
+// the input is asked for.
 pub(crate) fn walk<R: io::Read, W: io::Write>(
     rt: &HostRuntime,
     text: &[u8],
@@ -59,7 +60,10 @@ pub(crate) fn walk<R: io::Read, W: io::Write>(
         Writes (Output text.now lines) (W.contents out.old) (W.contents out.new))) }
 {
     match print_book(out, text)? {
-        Some(book) => judge_lines(rt, book, input, out),
+        Some(book) => {
+            out.flush()?;
+            judge_lines(rt, book, input, out)
+        }
         None => Ok(()),
     }
 }

@@ -6,11 +6,17 @@ ghost use Rattle.bitset.specs.Relations.{Holds};
 use super::Rows;
 use crate::{contains, with};
 
-// The row, joined with the middle row if it has m.
+// The row, joined with the middle row if it has m. (Not by `contains`, which tests a number of 64 bits: the rows are joined four at a
+// time.)
 fn joined(row: u32, m: usize, middle: u32) -> u32
+    requires { m < 32 }
     ensures { (q : ℕ) → Has result q ↔ (Has row q ⊎ (Has row m × Has middle q)) }
 {
-    if contains(row, m) { row | middle } else { row }
+    if (row >> m) & 1 == 1 {
+        row | middle
+    } else {
+        row
+    }
 }
 
 impl Rows {

@@ -13,14 +13,35 @@ const STEPS: u32 = 7 * 16 * 49;
 // (position, span and steps go apart: each call in the cycle changes one of them at least, and would rebuild a struct of
 // the three)
 impl<'b> Forest<'b> {
+    // The trees of the productions over the span; none where those of one of them are not known. (all by one look into the
+    // map, since nearly every question is asked again)
+    fn known_trees(&self, productions: &[u8], span: Span) -> Option<Trees> {
+        let known = self.known.get(&span)?;
+        productions.iter().try_fold(Trees::NONE, |all, production| {
+            let trees = known.get(usize::from(*production)).copied().flatten()?;
+            Some(all.or(trees))
+        })
+    }
+
+    // Keeps the trees of the production over the span. (Apart, so that a new entry of the map takes no room in the frames of the
+    // recursion.)
+    #[inline(never)]
+    fn keep(&mut self, production: u8, span: Span, trees: Trees) -> Result<(), AllocError> {
+        let known = self.known.entry(span)?.or_insert([None; 33]);
+        if let Some(slot) = known.get_mut(usize::from(production)) {
+            *slot = Some(trees);
+        }
+        Ok(())
+    }
+
     // The trees of the production over the span.
     #[cycle(trees)]
     fn trees_of(&mut self, production: u8, span: Span, steps: u32) -> Result<Trees, AllocError> {
-        if let Some(trees) = self.known.get(&(production, span)) {
-            return Ok(*trees);
+        if let Some(trees) = self.known_trees(&[production], span) {
+            return Ok(trees);
         }
         let trees = self.trees_from(Position::first(production), span, steps)?;
-        self.known.insert((production, span), trees)?;
+        self.keep(production, span, trees)?;
         Ok(trees)
     }
 
@@ -32,6 +53,9 @@ impl<'b> Forest<'b> {
         span: Span,
         steps: u32,
     ) -> Result<Trees, AllocError> {
+        if let Some(trees) = self.known_trees(productions, span) {
+            return Ok(trees);
+        }
         let mut all = Trees::NONE;
         for production in productions {
             all = all.or(self.trees_of(*production, span, steps)?);
@@ -50,10 +74,11 @@ impl<'b> Forest<'b> {
         let Some(fewest) = book.fewest_from(at.next()) else {
             return Ok(all);
         };
+        let children = book.children(at);
         for middle in span.from..=span.to {
             // the symbols behind stand over no fewer words than that
             if fewest <= span.to - middle {
-                let first = self.trees_of_each(book.children(at), span.ending(middle), steps)?;
+                let first = self.trees_of_each(children, span.ending(middle), steps)?;
                 if !first.is_none() {
                     let rest = self.trees_from(at.next(), span.starting(middle), steps)?;
                     all = all.or(first.and(rest));

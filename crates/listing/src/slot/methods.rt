@@ -50,7 +50,8 @@ impl<'a> Slot<'a> {
             start,
             end,
         };
-        let can_be = contains(self.next, end)
+        // (`% 64`, which `end` is below: so the test asks no more than the one bit)
+        let can_be = contains(self.next, end % 64)
             && child.is_whole()
             && child.weight() < self.node.weight();
         can_be.then_some(child)

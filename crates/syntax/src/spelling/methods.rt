@@ -18,14 +18,15 @@ impl Literal {
     pub fn new(bytes: &[u8]) -> Option<Literal>
         ensures { MatchOption result (¬ ValidSpelling (literal bytes.now)) (λ l. bytes_of l ≡ bytes.now) }
     {
+        // The length is asked first, so that of a long text no byte is looked at.
+        let literal = Bytes::from_slice(bytes)?;
         if bytes.is_empty() {
             return None;
         }
         if !bytes.iter().all(|byte| may_stand(*byte)) {
             return None;
         }
-        let bytes = Bytes::from_slice(bytes)?;
-        Some(Literal { bytes })
+        Some(Literal { bytes: literal })
     }
 
     // The bytes of the literal.
