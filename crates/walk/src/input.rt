@@ -48,8 +48,8 @@ fn judge_lines<R: io::Read, W: io::Write>(
     writeln!(out, "lines {count}")
 }
 
-// Writes what the text is as a grammar file and, where it is one, what each line of the input is by it. What the text is is out before
-// the input is asked for.
+// Writes what the text is as a grammar file and, where it is one, what each line of the input is by it. The line of the book is written
+// out before the input is read.
 pub(crate) fn walk<R: io::Read, W: io::Write>(
     rt: &HostRuntime,
     text: &[u8],
